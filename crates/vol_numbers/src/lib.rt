@@ -13,7 +13,8 @@ pub use block::{BLOCK_SIZE, Block, BlockNo, Fbn, InoNo};
 pub use call_plan::CallPlan;
 pub use fault_count::FaultCount;
 pub use geometry::{BadGeometry, Geometry};
-pub use item_list::{ByteList, CallList, ChangeList, CountList, ItemList, PageList, PointerList, RunList};
+pub use item_list::{
+    ByteList, CallList, ChangeList, CountList, ItemList, PageList, PointerList, RunList,
+};
 pub use name::{BadName, Name};
 pub use runs::{Change, Page, Run};
-

@@ -1,0 +1,4 @@
+pub mod Disk
+pub mod Media
+pub mod Memory
+pub mod Past

@@ -1,0 +1,15 @@
+//! A disk as the volume sees it: what it holds, what a power cut may leave of it, and how it fails.
+#![tactic(auto)]
+
+mod disk;
+mod last_read;
+mod media;
+mod pick;
+mod record;
+mod sure_disk;
+
+pub use disk::{Disk, DiskFault};
+pub use last_read::LastRead;
+pub use media::{Media, OpenFault};
+pub use pick::{NotOpen, Pick};
+pub use sure_disk::SureDisk;
