@@ -1,0 +1,14 @@
+//! The server's top call: words, an image, a source and a sink in, a status out.
+#![tactic(auto)]
+
+mod mem_sink;
+mod mem_source;
+mod sink;
+mod source;
+mod status;
+
+pub use mem_sink::MemSink;
+pub use mem_source::MemSource;
+pub use sink::{Sink, SinkFault};
+pub use source::{Source, SourceFault};
+pub use status::Status;
