@@ -2,3 +2,4 @@ pub mod Disk
 pub mod Media
 pub mod Memory
 pub mod Past
+pub mod Planned

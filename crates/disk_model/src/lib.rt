@@ -4,6 +4,7 @@
 mod disk;
 mod last_read;
 mod media;
+mod mem_disk;
 mod pick;
 mod record;
 mod sure_disk;
@@ -11,5 +12,6 @@ mod sure_disk;
 pub use disk::{Disk, DiskFault};
 pub use last_read::LastRead;
 pub use media::{Media, OpenFault};
+pub use mem_disk::MemDisk;
 pub use pick::{NotOpen, Pick};
 pub use sure_disk::SureDisk;
