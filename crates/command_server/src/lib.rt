@@ -6,6 +6,7 @@ mod mem_source;
 mod sink;
 mod source;
 mod status;
+mod words;
 
 pub use mem_sink::MemSink;
 pub use mem_source::MemSource;

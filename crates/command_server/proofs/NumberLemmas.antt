@@ -1,0 +1,37 @@
+-- What std's `parse` makes of a decimal word.
+use Rattle.std.proofs.Common.{◌≡◌, ◌∙◌, ◌<◌, ◌^◌, ℕ, List, length, true, false, Some, None, Ok, Err, Result, refl, sym, ap, rules, arith}
+use Rattle.std.specs.Prelude.{◌&&◌, ◌||◌, ◌==◌, not, nat_lt, slice_index, if◌then◌else◌, Option, Bool}
+use Rattle.std.specs.List.{list_all}
+use Rattle.std.specs.Char.{is_ascii_digit}
+use Rattle.std.specs.Result.{OkIff, result_ok}
+use Rattle.std.specs.Str.Parse.{digits_value, ParsesUnsigned}
+use Rattle.std.proofs.lemmas.Bool.Decides.{nat_tests}
+use Rattle.std.proofs.lemmas.Str.Parse.{IsDigitsTest, IsNumeralModel, numerals_by_value, parse_digits}
+use Rattle.command_server.specs.Words.{number_in, is_decimal, has_first_digit}
+
+are_digits : IsDigitsTest (λ ds. list_all is_ascii_digit ds ≡ true)
+are_digits = search rules
+
+own : IsNumeralModel (λ ds. list_all is_ascii_digit ds ≡ true) (digits_value 10)
+own = numerals_by_value _ are_digits
+
+digits_of_decimal : (word : List ℕ) → is_decimal word ≡ true → list_all is_ascii_digit word ≡ true
+digits_of_decimal word is = grind (arith, nat_tests)
+
+some_of_decimal : (word : List ℕ) → is_decimal word ≡ true → 0 < length word
+some_of_decimal word is = grind (arith, nat_tests)
+
+fits : (word : List ℕ) → is_decimal word ≡ true → digits_value 10 word < 2 ^ 32 → number_in word ≡ Some (digits_value 10 word)
+fits word is lt = grind (arith, nat_tests)
+
+passes : (word : List ℕ) → (digits_value 10 word < 2 ^ 32 → ⊥) → number_in word ≡ None
+passes word not_lt = grind (arith, nat_tests)
+
+-- a decimal word is parsed as the number that it writes
+pub number_read : {E : Type 0} (word : List ℕ) (r : Result ℕ E) → ParsesUnsigned 32 10 word r → is_decimal word ≡ true → result_ok r ≡ number_in word
+number_read {E = E} word (Ok x) parses is =
+    let iff : OkIff {E = E} (Ok x) ((0 < length word) × (digits_value 10 word < 2 ^ 32)) (digits_value 10 word) = parse_digits own {E = E} 32 word (Ok x) parses (digits_of_decimal word is) in
+    ap (λ (n : ℕ). Some n) iff.1 ∙ sym (fits word is iff.0.1)
+number_read {E = E} word (Err e) parses is =
+    let iff : OkIff {E = E} (Err e) ((0 < length word) × (digits_value 10 word < 2 ^ 32)) (digits_value 10 word) = parse_digits own {E = E} 32 word (Err e) parses (digits_of_decimal word is) in
+    sym (passes word (λ lt. iff (some_of_decimal word is, lt)))

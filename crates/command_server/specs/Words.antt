@@ -1,0 +1,61 @@
+-- What the words of a call ask for.
+use Rattle.std.specs.Prelude.{ℕ, ◌-◌, ◌^◌, ◌==◌, ◌&&◌, ◌||◌, not, nat_lt, nat_le, if◌then◌else◌, Bool, false, List, [], ◌∷◌, length, codes, bytes_eq, slice_index, Option, Some, None, is_none, unwrap_or, option_and_then}
+use Rattle.std.specs.Option.{option_map}
+use Rattle.std.specs.List.{list_all}
+use Rattle.std.specs.Char.{is_ascii_digit}
+use Rattle.std.specs.Str.Parse.{digits_value}
+use Rattle.vol_numbers.specs.Layout.{Layout, area_start, area_size}
+use Rattle.command_server.specs.declared.words.FormatOptions.{FormatOptions}
+
+-- to make a volume of this layout in the image of this name
+pub data Request : Type 0 where
+  Format : List ℕ → Layout → Request
+
+-- one digit, or more of which the first isn't 0
+abbrev pub has_first_digit : List ℕ → Bool
+has_first_digit word = length word == 1 || (nat_lt 1 (length word) && not (slice_index word 0 == 48))
+
+-- digits alone, with no leading zero
+abbrev pub is_decimal : List ℕ → Bool
+is_decimal word = list_all is_ascii_digit word && has_first_digit word
+
+-- the number that a word writes, if it is one below 2^32: no row of the table of actions has a greater one
+abbrev pub number_in : List ℕ → Option ℕ
+number_in word = if is_decimal word && nat_lt (digits_value 10 word) (2 ^ 32) then Some (digits_value 10 word) else None
+
+-- with one option more, if it is an option of a format that wasn't given yet and its value is a number
+abbrev pub with_option : FormatOptions → List ℕ → List ℕ → Option FormatOptions
+with_option o name value =
+    if bytes_eq name (codes "--blocks") && is_none o.blocks then option_map (λ n. record o { blocks = Some n }) (number_in value)
+    else if bytes_eq name (codes "--log") && is_none o.log then option_map (λ n. record o { log = Some n }) (number_in value)
+    else None
+
+-- with all the options of these words, which are pairs of an option and its value
+abbrev pub with_options : FormatOptions → List (List ℕ) → Option FormatOptions
+with_options o [] = Some o
+with_options o (name ∷ []) = None
+with_options o (name ∷ value ∷ rest) = option_and_then (λ next. with_options next rest) (with_option o name value)
+
+abbrev pub no_options : FormatOptions
+no_options = record { blocks = None; log = None }
+
+-- 65,536 blocks and a log of 1,024, where the options don't say otherwise
+abbrev pub layout_in : FormatOptions → Layout
+layout_in o = record { blocks = unwrap_or o.blocks 65536; log_blocks = unwrap_or o.log 1024 }
+
+-- whether a layout is within the limits of a volume
+abbrev pub is_layout : Layout → Bool
+is_layout g = nat_le g.blocks 65536 && nat_le 64 g.log_blocks && nat_le g.log_blocks 4096 && nat_le 64 (area_size g)
+
+-- a word that may name an image: it has a byte, and doesn't begin as an option does
+abbrev pub is_plain : List ℕ → Bool
+is_plain word = nat_lt 0 (length word) && not (slice_index word 0 == 45)
+
+abbrev pub format_of : List ℕ → FormatOptions → Option Request
+format_of image o = if is_layout (layout_in o) then Some (Format image (layout_in o)) else None
+
+-- what the words ask for, if they are in the table of actions: `format IMAGE [--blocks N] [--log N]`
+abbrev pub request_of : List (List ℕ) → Option Request
+request_of (action ∷ image ∷ options) =
+    if bytes_eq action (codes "format") && is_plain image then option_and_then (format_of image) (with_options no_options options) else None
+request_of words = None
