@@ -1,2 +1,4 @@
+pub mod BlockLemmas
 pub mod NumberLemmas
+pub mod PutLemmas
 pub mod WordLemmas

@@ -1,6 +1,8 @@
 pub mod Asked
+pub mod Blocks
 pub mod Ends
 pub mod MemEnds
+pub mod Putting
 pub mod Status
 pub mod Text
 pub mod Texts

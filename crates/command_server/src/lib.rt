@@ -1,8 +1,10 @@
 //! The server's top call: words, an image, a source and a sink in, a status out.
 #![tactic(auto)]
 
+mod fresh;
 mod mem_sink;
 mod mem_source;
+mod reply;
 mod sink;
 mod source;
 mod status;
