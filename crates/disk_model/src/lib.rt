@@ -2,6 +2,7 @@
 #![tactic(auto)]
 
 mod disk;
+mod durable;
 mod last_read;
 mod media;
 mod mem_disk;
@@ -10,6 +11,7 @@ mod record;
 mod sure_disk;
 
 pub use disk::{Disk, DiskFault};
+pub use durable::write_through;
 pub use last_read::LastRead;
 pub use media::{Media, OpenFault};
 pub use mem_disk::MemDisk;
