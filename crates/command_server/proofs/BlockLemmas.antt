@@ -11,6 +11,6 @@ fresh_counts-each g b (x ∷ xs) each =
     let here : b + 0 ≡ b = omega arith in
     let head : x ≡ fresh_count g b = each 0 (omega arith) ∙ ap (fresh_count g) here in
     let tail : xs ≡ fresh_counts g (b + 1) (length xs) = fresh_counts-each g (b + 1) xs (λ k lt.
-        let there : b + suc k ≡ b + 1 + k = omega arith in
-        each (suc k) (omega arith) ∙ ap (fresh_count g) there) in
+    let there : b + suc k ≡ b + 1 + k = omega arith in
+    each (suc k) (omega arith) ∙ ap (fresh_count g) there) in
     λ i. head i ∷ tail i

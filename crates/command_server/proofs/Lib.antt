@@ -1,4 +1,5 @@
 pub mod BlockLemmas
+pub mod FormatLemmas
 pub mod NumberLemmas
 pub mod PutLemmas
 pub mod WordLemmas

@@ -1,8 +1,11 @@
 pub mod Asked
 pub mod Blocks
 pub mod Ends
+pub mod Formatting
+pub mod Fresh
 pub mod MemEnds
 pub mod Putting
+pub mod Run
 pub mod Status
 pub mod Text
 pub mod Texts

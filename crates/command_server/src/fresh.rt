@@ -2,9 +2,11 @@
 ghost use Rattle.std.specs.Prelude.{◌≡◌, ◌<◌, ◌≤◌};
 ghost use Rattle.vol_numbers.specs.Layout.{count_blocks};
 ghost use Rattle.vol_numbers.specs.Geometry.{layout_of};
+ghost use Rattle.command_server.specs.Fresh.{root_block};
 ghost use Rattle.command_server.specs.Blocks.{block_of_words, fresh_count, fresh_counts, count_block, index_block, inode_block};
 
 use byteorder::{ByteOrder, LittleEndian};
+use root_switch::{HomeBits, RootBody, write_root};
 use vol_numbers::{Block, BlockNo, Geometry};
 
 /// How many numbers a block of counts or pointers has.
@@ -66,4 +68,21 @@ pub(crate) fn inode_block() -> Block
     let mut bytes = [0; 4096];
     bytes[64] = 2;
     Block { bytes }
+}
+
+/// The root of a fresh volume.
+pub(crate) fn root_block(g: &Geometry) -> Block
+    ensures { result ≡ root_block (layout_of g.now) }
+{
+    let body = RootBody {
+        geometry: *g,
+        point: 0,
+        inode_index: g.area_start() + 1,
+        records: 0,
+        log_used: 0,
+        homes: HomeBits::zero(),
+    };
+    let mut block = Block::zero();
+    write_root(&body, &mut block);
+    block
 }

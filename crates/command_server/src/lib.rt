@@ -1,17 +1,21 @@
 //! The server's top call: words, an image, a source and a sink in, a status out.
 #![tactic(auto)]
 
+mod formatting;
 mod fresh;
 mod mem_sink;
 mod mem_source;
 mod reply;
+mod running;
 mod sink;
 mod source;
 mod status;
 mod words;
 
+pub use formatting::format;
 pub use mem_sink::MemSink;
 pub use mem_source::MemSource;
+pub use running::run;
 pub use sink::{Sink, SinkFault};
 pub use source::{Source, SourceFault};
 pub use status::Status;

@@ -1,0 +1,37 @@
+-- What a run does, by what the words ask for and by its status.
+use Rattle.std.specs.Prelude.{◌≡◌, ◌≢◌, ◌⊎◌, ℕ, List, length, Some}
+use Rattle.disk_model.specs.Disk.{State}
+use Rattle.disk_model.specs.Media.{Fixed, image_named}
+use Rattle.command_server.specs.Ends.{Output, Puts, PutsPart}
+use Rattle.command_server.specs.Formatting.{IsFormatted}
+use Rattle.command_server.specs.Words.{Request, Format}
+use Rattle.command_server.specs.declared.status.Status.{Status}
+use Rattle.command_server.specs.declared.status.Status.TheVariants.{Done, Usage, BadVolume, Device, SourceFailed, SinkFailed, NoMemory, BadStream, Budget}
+
+-- What the sink gets: the text, or a part of it where the sink fails, or nothing. No other status comes.
+abbrev pub PutsBy : Status → List ℕ → Output → Output → Type 0
+PutsBy Done text old new = Puts old new text
+PutsBy Usage text old new = Puts old new text
+PutsBy SinkFailed text old new = PutsPart old new text
+PutsBy Device text old new = new ≡ old
+PutsBy NoMemory text old new = new ≡ old
+PutsBy BadVolume text old new = ⊥
+PutsBy SourceFailed text old new = ⊥
+PutsBy BadStream text old new = ⊥
+PutsBy Budget text old new = ⊥
+
+-- the action was done, whether or not the sink took the text of it
+abbrev pub IsActionDone : Status → Type 0
+IsActionDone status = (status ≡ Done) ⊎ (status ≡ SinkFailed)
+
+-- the image that was asked for is open, nothing in it is unsynced, and it is a fresh volume
+abbrev pub IsMade : Request → Fixed → State → Type 0
+IsMade (Format image g) fixed state = (fixed.current ≡ Some image) × IsFormatted g state
+
+-- the images of all other names are as they were
+abbrev pub KeepsOthers : Request → Fixed → State → Fixed → State → Type 0
+KeepsOthers (Format image g) old old_state new new_state = (other : List ℕ) → other ≢ image → image_named new new_state other ≡ image_named old old_state other
+
+-- A moment of the run: the image has its blocks, and none of what they hold is promised; or nothing was opened, and this is the last moment.
+abbrev pub IsDuring : Request → State → State → Type 0
+IsDuring (Format image g) last s = (length s.contents ≡ g.blocks) ⊎ (s ≡ last)

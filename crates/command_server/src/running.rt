@@ -1,0 +1,100 @@
+//! The top call.
+ghost use Rattle.std.specs.Prelude.{◌≡◌, ◌⊎◌, ◌≤◌, None, Some, IfSome, IsTrue};
+ghost use Rattle.vol_numbers.specs.Cause.{Rose};
+ghost use Rattle.vol_numbers.specs.Geometry.{layout_of};
+ghost use Rattle.disk_model.specs.Past.{Adds};
+ghost use Rattle.command_server.specs.Words.{request_of, Format};
+ghost use Rattle.command_server.specs.Text.{texts};
+ghost use Rattle.command_server.specs.Texts.{text_for, usage_text, formatted_text};
+ghost use Rattle.command_server.specs.Run.{PutsBy, IsActionDone, IsMade, KeepsOthers, IsDuring};
+ghost use Rattle.command_server.specs.declared.status.Status.TheVariants.{Done, Usage, Device, SinkFailed};
+
+use crate::reply::{put_formatted, put_usage};
+use crate::words::{Request, read_words};
+use crate::{Sink, SinkFault, Source, Status, format};
+use disk_model::{DiskFault, Media, OpenFault};
+use vol_numbers::Geometry;
+
+/// Does what the words after the program's name ask for, over an image of the media, and answers how it ended. The table of actions is in
+/// `docs/FORMAT.md`.
+pub fn run<M: Media, R: Source, W: Sink>(
+    words: &[&str],
+    media: &mut M,
+    source: &mut R,
+    sink: &mut W,
+) -> Status
+    // Usage exactly where the words are outside the table, but that a failure of the sink comes in its place.
+    ensures usage { result ≡ Usage → request_of (texts words.now) ≡ None }
+    ensures usage_always { request_of (texts words.now) ≡ None → (result ≡ Usage) ⊎ (result ≡ SinkFailed) }
+    // Each other failure has its cause. Want of memory alone is free.
+    ensures device { result ≡ Device → Rose (M.faults media.old) (M.faults media.new) }
+    ensures sink_failed { result ≡ SinkFailed → Rose (W.seen sink.old).faults (W.seen sink.new).faults }
+
+    // What is written, and what is made.
+    ensures put { PutsBy result (text_for (request_of (texts words.now))) (W.seen sink.old) (W.seen sink.new) }
+    ensures made { IsActionDone result → IsTrue M.tells → IfSome (request_of (texts words.now)) (λ request. IsMade request (M.fixed media.new) (M.state media.new)) }
+    ensures moments { IsTrue M.tells → IfSome (request_of (texts words.now)) (λ request. Adds (M.past media.old) (M.past media.new) (IsDuring request (M.state media.new))) }
+
+    // What stays.
+    ensures others { IsTrue M.tells → IfSome (request_of (texts words.now)) (λ request.
+        KeepsOthers request (M.fixed media.old) (M.state media.old) (M.fixed media.new) (M.state media.new)) }
+    ensures untouched { request_of (texts words.now) ≡ None → media.new ≡ media.old }
+    ensures source { source.new ≡ source.old }
+    ensures never_falls { M.faults media.old ≤ M.faults media.new }
+{
+    match read_words(words) {
+        Some(Request::Format { image, geometry }) => format_image(image, &geometry, media, sink),
+        None => refuse(sink),
+    }
+}
+
+/// Says how the program is called.
+fn refuse<W: Sink>(sink: &mut W) -> Status
+    ensures status { (result ≡ Usage) ⊎ (result ≡ SinkFailed) }
+    ensures put { PutsBy result usage_text (W.seen sink.old) (W.seen sink.new) }
+    ensures sink_failed { result ≡ SinkFailed → Rose (W.seen sink.old).faults (W.seen sink.new).faults }
+{
+    match put_usage(sink) {
+        Ok(()) => Status::Usage,
+        Err(SinkFault) => Status::SinkFailed,
+    }
+}
+
+/// Makes a volume in an image.
+fn format_image<M: Media, W: Sink>(
+    image: &str,
+    geometry: &Geometry,
+    media: &mut M,
+    sink: &mut W,
+) -> Status
+    ensures not_usage { result ≡ Usage → ⊥ }
+    ensures device { result ≡ Device → Rose (M.faults media.old) (M.faults media.new) }
+    ensures sink_failed { result ≡ SinkFailed → Rose (W.seen sink.old).faults (W.seen sink.new).faults }
+    ensures put { PutsBy result (text_for (Some (Format image.now (layout_of geometry.now)))) (W.seen sink.old) (W.seen sink.new) }
+    ensures made { IsActionDone result → IsTrue M.tells → IsMade (Format image.now (layout_of geometry.now)) (M.fixed media.new) (M.state media.new) }
+    ensures moments { IsTrue M.tells → Adds (M.past media.old) (M.past media.new) (IsDuring (Format image.now (layout_of geometry.now)) (M.state media.new)) }
+    ensures others { IsTrue M.tells → KeepsOthers (Format image.now (layout_of geometry.now)) (M.fixed media.old) (M.state media.old) (M.fixed media.new) (M.state media.new) }
+    ensures never_falls { M.faults media.old ≤ M.faults media.new }
+{
+    match media.open(image, Some(geometry.blocks())) {
+        Ok(()) => {}
+        Err(OpenFault::Failed) => return Status::Device,
+        Err(OpenFault::OutOfMemory) => return Status::NoMemory,
+    }
+    match format(media, geometry) {
+        Ok(free) => tell(sink, free),
+        Err(DiskFault) => Status::Device,
+    }
+}
+
+/// Says how many blocks are free.
+fn tell<W: Sink>(sink: &mut W, free: u32) -> Status
+    ensures status { (result ≡ Done) ⊎ (result ≡ SinkFailed) }
+    ensures put { PutsBy result (formatted_text free) (W.seen sink.old) (W.seen sink.new) }
+    ensures sink_failed { result ≡ SinkFailed → Rose (W.seen sink.old).faults (W.seen sink.new).faults }
+{
+    match put_formatted(sink, free) {
+        Ok(()) => Status::Done,
+        Err(SinkFault) => Status::SinkFailed,
+    }
+}
