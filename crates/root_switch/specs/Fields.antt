@@ -1,0 +1,13 @@
+-- The root that the fields of a slot say.
+use Rattle.root_switch.specs.Root.{Root}
+use Rattle.root_switch.specs.declared.fields.Fields.{Fields}
+
+abbrev pub root_from : Fields → Root
+root_from fields = record {
+  layout = record { blocks = fields.blocks; log_blocks = fields.log_blocks };
+  point = fields.point;
+  inode_index = fields.inode_index;
+  records = fields.records;
+  log_used = fields.log_used;
+  homes = fields.homes.bytes;
+}

@@ -1,0 +1,4 @@
+pub mod Current
+pub mod Fields
+pub mod Homes
+pub mod Root

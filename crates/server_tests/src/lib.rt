@@ -1,0 +1,5 @@
+//! Tests that cross crates: whole runs over media, sources and sinks in memory.
+#![tactic(auto)]
+
+#[cfg(test)]
+mod formats;
