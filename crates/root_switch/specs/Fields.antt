@@ -1,7 +1,8 @@
--- The root that the fields of a slot say.
+-- The fields of a root slot, before any rule of the geometry.
 use Rattle.root_switch.specs.Root.{Root}
 use Rattle.root_switch.specs.declared.fields.Fields.{Fields}
 
+-- the root that these fields say
 abbrev pub root_from : Fields → Root
 root_from fields = record {
   layout = record { blocks = fields.blocks; log_blocks = fields.log_blocks };

@@ -1,10 +1,6 @@
 -- The home bits of a root, as 128 bytes.
-use Rattle.std.specs.Prelude.{◌≡◌, ◌<◌, ◌≤◌, ◌/◌, ◌%◌, ◌^◌, ℕ, List, slice_index}
+use Rattle.std.specs.Prelude.{◌/◌, ◌%◌, ◌^◌, ℕ, List, slice_index}
 
--- the home of count block i
+-- the home of count block i: 0 or 1
 abbrev pub home_bit : List ℕ → ℕ → ℕ
 home_bit homes i = slice_index homes (i / 8) / 2 ^ (i % 8) % 2
-
--- no home bit is set from this one on
-abbrev pub ClearFrom : ℕ → List ℕ → Type 0
-ClearFrom first homes = (i : ℕ) → i < 1024 → first ≤ i → home_bit homes i ≡ 0

@@ -16,6 +16,7 @@ pub record Root : Type 0 where
   pub log_used : ℕ
   pub homes : List ℕ
 
+-- the root that a body says
 abbrev pub root_of : RootBody → Root
 root_of body = record {
   layout = layout_of body.geometry;
@@ -26,7 +27,7 @@ root_of body = record {
   homes = body.homes.bytes;
 }
 
--- the one spelling of a root, up to the last of its fields
+-- the spelling of a root up to its home bits
 abbrev pub header_bytes : Root → List ℕ
 header_bytes r =
     codes "IDEDUPFS" ++ little_bytes 4 1
@@ -35,7 +36,7 @@ header_bytes r =
     ++ little_bytes 4 r.records ++ little_bytes 4 r.log_used ++ replicate 4 0
     ++ r.homes
 
--- the one spelling of a root
+-- the one spelling of a root, which fills its block with zeros
 abbrev pub root_bytes : Root → List ℕ
 root_bytes r = header_bytes r ++ replicate 3920 0
 

@@ -1,7 +1,7 @@
 //! The fields of a root slot as they stand, before any rule of the geometry.
-ghost use Rattle.std.specs.Prelude.{◌≡◌, ◌↔◌, IsSome, IfSome, take, drop};
+ghost use Rattle.std.specs.Prelude.{◌≡◌, ◌≤◌, ◌+◌, ◌↔◌, IsSome, IfSome, length, take, drop};
+ghost use Rattle.byteorder.specs.Endian.{little_number};
 ghost use Rattle.root_switch.specs.Root.{root_of, root_in, root_bytes, header_bytes, HasGeometry};
-ghost use Rattle.root_switch.specs.Fields.{root_from};
 
 use crate::{HomeBits, RootBody};
 use byteorder::{ByteOrder, LittleEndian};
@@ -19,6 +19,9 @@ pub(crate) struct Fields {
 }
 
 impl Fields {
+    ghost use Rattle.root_switch.specs.Fields.{root_from};
+
+    /// The fields of a root.
     pub(crate) fn of(body: &RootBody) -> Fields
         ensures { root_from result ≡ root_of body.now }
     {
@@ -33,6 +36,45 @@ impl Fields {
         }
     }
 
+    /// The fields of a block, whatever its shape.
+    #[tactic(auto, unfolding(crate::specs::Root::root_in))]
+    pub(crate) fn read(bytes: &[u8]) -> Fields
+        requires { length bytes.now ≡ 4096 }
+        ensures { root_from result ≡ root_in bytes.now }
+    {
+        Fields {
+            blocks: u32_at(bytes, 12),
+            log_blocks: u32_at(bytes, 16),
+            point: u64_at(bytes, 24),
+            inode_index: u32_at(bytes, 32),
+            records: u32_at(bytes, 36),
+            log_used: u32_at(bytes, 40),
+            homes: homes_of(bytes),
+        }
+    }
+
+    /// The root with these fields, exactly within the geometry rules.
+    pub(crate) fn body(&self) -> Option<RootBody>
+        ensures within { IsSome result ↔ HasGeometry (root_from self.now) }
+        ensures value { IfSome result (λ body. root_of body ≡ root_from self.now) }
+    {
+        let geometry = Geometry::new(self.blocks, self.log_blocks).ok()?;
+        if self.records > self.log_used
+            || self.log_used > self.log_blocks
+            || !self.homes.is_clear_from(geometry.count_blocks())
+        {
+            return None;
+        }
+        Some(RootBody {
+            geometry,
+            point: self.point,
+            inode_index: self.inode_index,
+            records: self.records,
+            log_used: self.log_used,
+            homes: self.homes,
+        })
+    }
+
     /// The one block with these fields.
     pub(crate) fn spelled(&self) -> [u8; 4096]
         ensures { result ≡ root_bytes (root_from self.now) }
@@ -42,6 +84,7 @@ impl Fields {
         bytes
     }
 
+    /// Its bytes up to the home bits.
     fn header(&self) -> [u8; 176]
         ensures { result ≡ header_bytes (root_from self.now) }
     {
@@ -59,3 +102,25 @@ impl Fields {
     }
 }
 
+fn u32_at(bytes: &[u8], at: usize) -> u32
+    requires { at + 4 ≤ length bytes.now }
+    ensures { result ≡ little_number 4 (drop at bytes.now) }
+{
+    LittleEndian::read_u32(&bytes[at..])
+}
+
+fn u64_at(bytes: &[u8], at: usize) -> u64
+    requires { at + 8 ≤ length bytes.now }
+    ensures { result ≡ little_number 8 (drop at bytes.now) }
+{
+    LittleEndian::read_u64(&bytes[at..])
+}
+
+fn homes_of(bytes: &[u8]) -> HomeBits
+    requires { length bytes.now ≡ 4096 }
+    ensures { result.bytes ≡ take 128 (drop 48 bytes.now) }
+{
+    let mut homes = HomeBits::zero();
+    homes.bytes.copy_from_slice(&bytes[48..176]);
+    homes
+}

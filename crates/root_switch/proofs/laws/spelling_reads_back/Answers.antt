@@ -1,0 +1,10 @@
+use Rattle.std.proofs.Common.{rules}
+use Rattle.root_switch.specs.Root.{root_of}
+use Rattle.root_switch.proofs.RootLaws.{HasRoom, root_in-root_bytes}
+use Rattle.root_switch.proofs.laws.spelling_reads_back.Goals as goal
+
+pub returns : goal.returns
+returns c =
+    let fits = c.well_formed in
+    let room : HasRoom (root_of c.args.body) = search rules in
+    root_in-root_bytes _ room
