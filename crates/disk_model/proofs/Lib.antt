@@ -1,2 +1,4 @@
+pub mod CutLemmas
+pub mod MediaLemmas
 pub mod MemoryLemmas
 pub mod Moments

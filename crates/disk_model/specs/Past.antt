@@ -1,5 +1,5 @@
 -- The moments of a disk up to now, and what holds at each of them.
-use Rattle.std.specs.Prelude.{◌⊎◌, ◌≤◌, ℕ, Bool, IsTrue}
+use Rattle.std.specs.Prelude.{◌≡◌, ◌⊎◌, ◌≤◌, ℕ, Bool, IsTrue}
 use Rattle.disk_model.specs.Disk.{State}
 
 -- What a disk tells of the time up to now: a clock, whether the moments are told, and the states at the moments since a clock value.
@@ -21,3 +21,8 @@ Keeps old new = IsTrue new.is_told → (t : ℕ) (s : State) → t ≤ old.clock
 -- each moment from old to new has Q, the first and the last too
 abbrev pub EachMoment : Past → Past → (State → Type 0) → Type 0
 EachMoment old new Q = IsTrue new.is_told → (s : State) → new.since old.clock s → Q s
+
+-- a record of no moment but this one
+pub record HasBegun (now : Past) : Type 0 where
+  pub told : IsTrue now.is_told
+  pub clock : now.clock ≡ 0

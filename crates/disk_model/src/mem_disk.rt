@@ -5,7 +5,7 @@ ghost use Rattle.vol_numbers.specs.Block.{zero_block, block_of};
 ghost use Rattle.vol_numbers.specs.Cause.{HasCause, Rose};
 ghost use Rattle.vol_numbers.specs.Plan.{no_plan, IsPlanned, advanced};
 ghost use Rattle.disk_model.specs.Disk.{blank, is_among, picked, written, synced, IsImage, DuringWrite, DuringSync, Gives};
-ghost use Rattle.disk_model.specs.Past.{Adds, Keeps};
+ghost use Rattle.disk_model.specs.Past.{Adds, Keeps, HasBegun};
 ghost use Rattle.disk_model.specs.Media.{of_size};
 ghost use Rattle.disk_model.specs.Planned.{plan_of, junk_of};
 
@@ -33,13 +33,74 @@ impl MemDisk {
         ensures given { IfOk result (λ disk. ⟦<MemDisk as Disk>⟧.given disk ≡ record { at = 0; block = zero_block; count = 0 }) }
         ensures plan { IfOk result (λ disk. plan_of disk ≡ no_plan) }
     {
-        Ok(MemDisk {
+        Ok(MemDisk::of(alloc, SureDisk::new(alloc, blocks)?))
+    }
+
+    /// No blocks, which takes no memory.
+    pub(crate) fn none(alloc: Global) -> MemDisk
+        ensures blank { ⟦<MemDisk as Disk>⟧.state result ≡ blank 0 }
+        ensures size { ⟦<MemDisk as Disk>⟧.fixed result ≡ of_size 0 }
+        ensures begun { HasBegun (⟦<MemDisk as Disk>⟧.past result) }
+    {
+        MemDisk::of(alloc, SureDisk::none(alloc))
+    }
+
+    fn of(alloc: Global, device: SureDisk) -> MemDisk
+        ensures state { ⟦<MemDisk as Disk>⟧.state result ≡ ⟦<SureDisk as Disk>⟧.state device }
+        ensures fixed { ⟦<MemDisk as Disk>⟧.fixed result ≡ ⟦<SureDisk as Disk>⟧.fixed device }
+        ensures told { (⟦<MemDisk as Disk>⟧.past result).is_told ≡ (⟦<SureDisk as Disk>⟧.past device).is_told }
+        ensures clock { (⟦<MemDisk as Disk>⟧.past result).clock ≡ (⟦<SureDisk as Disk>⟧.past device).clock }
+        ensures faults { ⟦<MemDisk as Disk>⟧.faults result ≡ 0 }
+        ensures given { ⟦<MemDisk as Disk>⟧.given result ≡ ⟦<SureDisk as Disk>⟧.given device }
+        ensures plan { plan_of result ≡ no_plan }
+        ensures junk { junk_of result ≡ 0 }
+    {
+        MemDisk {
             alloc,
-            device: SureDisk::new(alloc, blocks)?,
+            device,
             plan: CallPlan::none(alloc),
             junk: 0,
             faults: FaultCount::new(),
-        })
+        }
+    }
+
+    /// How many moments its record has.
+    pub(crate) fn moments(&self) -> u64
+        ensures { result ≡ (⟦<MemDisk as Disk>⟧.past self.now).clock }
+    {
+        self.device.moments()
+    }
+
+    pub(crate) fn is_told(&self) -> bool
+        ensures { result ≡ (⟦<MemDisk as Disk>⟧.past self.now).is_told }
+    {
+        self.device.is_told()
+    }
+
+    /// Begins a new record.
+    pub(crate) fn begin(&mut self)
+        ensures state { ⟦<MemDisk as Disk>⟧.state self.new ≡ ⟦<MemDisk as Disk>⟧.state self.old }
+        ensures fixed { ⟦<MemDisk as Disk>⟧.fixed self.new ≡ ⟦<MemDisk as Disk>⟧.fixed self.old }
+        ensures begun { HasBegun (⟦<MemDisk as Disk>⟧.past self.new) }
+        ensures given { ⟦<MemDisk as Disk>⟧.given self.new ≡ ⟦<MemDisk as Disk>⟧.given self.old }
+        ensures faults { ⟦<MemDisk as Disk>⟧.faults self.new ≡ ⟦<MemDisk as Disk>⟧.faults self.old }
+        ensures plan { plan_of self.new ≡ plan_of self.old }
+        ensures junk { junk_of self.new ≡ junk_of self.old }
+    {
+        self.device.begin();
+    }
+
+    /// Takes the blocks of another disk in the place of its own, and begins a new record. Its plan and its counts go on.
+    pub(crate) fn renew(&mut self, fresh: SureDisk)
+        ensures state { ⟦<MemDisk as Disk>⟧.state self.new ≡ ⟦<SureDisk as Disk>⟧.state fresh }
+        ensures fixed { ⟦<MemDisk as Disk>⟧.fixed self.new ≡ ⟦<SureDisk as Disk>⟧.fixed fresh }
+        ensures begun { HasBegun (⟦<MemDisk as Disk>⟧.past self.new) }
+        ensures given { ⟦<MemDisk as Disk>⟧.given self.new ≡ ⟦<MemDisk as Disk>⟧.given self.old }
+        ensures faults { ⟦<MemDisk as Disk>⟧.faults self.new ≡ ⟦<MemDisk as Disk>⟧.faults self.old }
+        ensures plan { plan_of self.new ≡ plan_of self.old }
+        ensures junk { junk_of self.new ≡ junk_of self.old }
+    {
+        self.device.renew(fresh);
     }
 
     /// Plans failures. The calls of `Disk` are numbered from 0 from now on; those in `fails` fail, and all from `from` on. A write that

@@ -4,6 +4,7 @@ ghost use Rattle.std.specs.List.{All, AllByRecursion};
 ghost use Rattle.vol_numbers.specs.Block.{zero_block};
 ghost use Rattle.disk_model.specs.Disk.{blank, is_among, picked, IsImage};
 ghost use Rattle.disk_model.specs.Media.{of_size};
+ghost use Rattle.disk_model.specs.Past.{HasBegun};
 
 use crate::record::{Before, Step, note, note_sync};
 use crate::{Disk, DiskFault, LastRead, NotOpen, Pick};
@@ -39,6 +40,58 @@ impl SureDisk {
             is_told: true,
             given: LastRead::none(),
         })
+    }
+
+    /// No blocks, which takes no memory.
+    pub(crate) fn none(alloc: Global) -> SureDisk
+        ensures blank { ⟦<SureDisk as Disk>⟧.state result ≡ blank 0 }
+        ensures size { ⟦<SureDisk as Disk>⟧.fixed result ≡ of_size 0 }
+        ensures begun { HasBegun (⟦<SureDisk as Disk>⟧.past result) }
+    {
+        SureDisk {
+            alloc,
+            cells: Vec::new(alloc),
+            flags: Vec::new(alloc),
+            steps: Vec::new(alloc),
+            is_told: true,
+            given: LastRead::none(),
+        }
+    }
+
+    /// How many steps the record has.
+    pub(crate) fn moments(&self) -> u64
+        ensures { result ≡ (⟦<SureDisk as Disk>⟧.past self.now).clock }
+    {
+        self.steps.len() as u64
+    }
+
+    pub(crate) fn is_told(&self) -> bool
+        ensures { result ≡ (⟦<SureDisk as Disk>⟧.past self.now).is_told }
+    {
+        self.is_told
+    }
+
+    /// Begins a new record.
+    pub(crate) fn begin(&mut self)
+        ensures state { ⟦<SureDisk as Disk>⟧.state self.new ≡ ⟦<SureDisk as Disk>⟧.state self.old }
+        ensures fixed { ⟦<SureDisk as Disk>⟧.fixed self.new ≡ ⟦<SureDisk as Disk>⟧.fixed self.old }
+        ensures begun { HasBegun (⟦<SureDisk as Disk>⟧.past self.new) }
+        ensures given { ⟦<SureDisk as Disk>⟧.given self.new ≡ ⟦<SureDisk as Disk>⟧.given self.old }
+    {
+        self.steps.clear();
+        self.is_told = true;
+    }
+
+    /// Takes the blocks of another disk in the place of its own, and begins a new record.
+    pub(crate) fn renew(&mut self, mut fresh: SureDisk)
+        ensures state { ⟦<SureDisk as Disk>⟧.state self.new ≡ ⟦<SureDisk as Disk>⟧.state fresh }
+        ensures fixed { ⟦<SureDisk as Disk>⟧.fixed self.new ≡ ⟦<SureDisk as Disk>⟧.fixed fresh }
+        ensures begun { HasBegun (⟦<SureDisk as Disk>⟧.past self.new) }
+        ensures given { ⟦<SureDisk as Disk>⟧.given self.new ≡ ⟦<SureDisk as Disk>⟧.given self.old }
+    {
+        fresh.begin();
+        fresh.given = self.given;
+        *self = fresh;
     }
 
     /// Whether a block is unsynced.

@@ -1,0 +1,25 @@
+use Rattle.std.proofs.Common.{refl, ap}
+use Rattle.disk_model.specs.Named.{state_of}
+use Rattle.disk_model.specs.declared.mem_disk.MemDisk.{MemDisk}
+use Rattle.disk_model.proofs.MediaLemmas.{not_current}
+use Rattle.disk_model.proofs.mem_media.MemMedia.add.Goals as goal
+
+pub returns-in-Some-clause-added : goal.returns-in-Some-clause-added
+returns-in-Some-clause-added c = let sets = rw c.in-Some.is at (c.disk.follows.holds c.args.disk) in sets.image
+
+pub returns-in-Some-clause-others : goal.returns-in-Some-clause-others
+returns-in-Some-clause-others c = let sets = rw c.in-Some.is at (c.disk.follows.holds c.args.disk) in sets.others
+
+pub returns-in-Some-clause-current : goal.returns-in-Some-clause-current
+returns-in-Some-clause-current c = let sets = rw c.in-Some.is at (c.disk.follows.holds c.args.disk) in sets.current
+
+pub returns-in-Some-clause-state : goal.returns-in-Some-clause-state
+returns-in-Some-clause-state c ne =
+    let sets = rw c.in-Some.is at (c.disk.follows.holds c.args.disk) in
+    ap (λ (d : MemDisk). state_of d) (sets.not_open (not_current _ c.args.name.now ne))
+
+pub returns-in-Some-clause-faults : goal.returns-in-Some-clause-faults
+returns-in-Some-clause-faults c = let sets = rw c.in-Some.is at (c.disk.follows.holds c.args.disk) in sets.faults
+
+pub returns-in-Some-clause-given : goal.returns-in-Some-clause-given
+returns-in-Some-clause-given c = let sets = rw c.in-Some.is at (c.disk.follows.holds c.args.disk) in sets.given

@@ -1,0 +1,12 @@
+use Rattle.std.proofs.Common.{Option, Some, None, List, ◌≡◌, ◌<◌, length, refl, sym, ◌∙◌, ap, subst, arith, slice_get, option_map}
+use Rattle.std.proofs.lemmas.Option.{slice_get_read}
+use Rattle.disk_model.specs.Lending.{with_named}
+use Rattle.disk_model.specs.declared.named.Named.{Named}
+use Rattle.disk_model.specs.declared.mem_disk.MemDisk.{MemDisk}
+use Rattle.disk_model.proofs.mem_media.MemMedia.other_disk.Goals as goal
+
+pub returns : goal.returns
+returns c =
+    let m = c.args.self.now in
+    let there : slice_get m.others.items c.args.i ≡ Some c.index_mut-named.result.now = slice_get_read m.others.items _ c.args.i c.index_mut-named.result.now refl (omega (arith, c.requires, m.others.ok.0)) c.index_mut-named.ensures.value in
+    ((refl, λ w. ap (λ (o : Option Named). with_named m c.args.i o w) (sym there)), record { writes_back = tt; value = ap (λ (o : Option Named). option_map (λ (n : Named). n.disk) o) there })
