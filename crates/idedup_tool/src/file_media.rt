@@ -1,0 +1,142 @@
+//! A medium over the files of the system. It tells nothing of what they hold.
+ghost use Rattle.std.specs.Prelude.{◌≡◌, ◌↔◌, None, IsOk, IfSome, OnOk, OnErr};
+ghost use Rattle.vol_numbers.specs.Cause.{raised, HasCause};
+
+use crate::image::Image;
+use disk_model::{Disk, DiskFault, LastRead, Media, OpenFault};
+use std::fs::{File, Files};
+use std::io;
+use vol_numbers::{Block, BlockNo, FaultCount};
+
+/// A medium whose images are files.
+#[derive(Drop)]
+pub struct FileMedia<R: Files<File = File>> {
+    rt: R,
+    image: Option<Image>,
+    pub(crate) faults: FaultCount,
+    given: LastRead,
+}
+
+impl<R: Files<File = File>> FileMedia<R> {
+    ghost use Rattle.vol_numbers.specs.Block.{zero_block};
+    ghost use Rattle.disk_model.specs.Media.{of_size};
+    ghost use Rattle.idedup_tool.specs.Image.{count_of};
+
+    /// Opens nothing: there are 0 blocks.
+    pub fn new(rt: R) -> FileMedia<R>
+        ensures size { ⟦<FileMedia<R> as Disk>⟧.fixed result ≡ of_size 0 }
+        ensures faults { ⟦<FileMedia<R> as Disk>⟧.faults result ≡ 0 }
+        ensures given { ⟦<FileMedia<R> as Disk>⟧.given result ≡ record { at = 0; block = zero_block; count = 0 } }
+    {
+        FileMedia {
+            rt,
+            image: None,
+            faults: FaultCount::new(),
+            given: LastRead::none(),
+        }
+    }
+
+    /// Closes the image that is open, and opens another. Where that fails nothing is open.
+    fn reopen(&mut self, name: &str, blocks: Option<u32>) -> io::Result<()>
+        ensures size { OnOk result (IfSome blocks (λ n. count_of self.new.image ≡ n)) }
+        ensures none { OnErr result (self.new.image ≡ None) }
+        ensures faults { self.new.faults ≡ self.old.faults }
+        ensures given { self.new.given ≡ self.old.given }
+    {
+        // The lock of the file that was open goes with it, so that the same file can be opened again.
+        self.image = None;
+        self.image = Some(Image::open(&self.rt, name, blocks)?);
+        Ok(())
+    }
+}
+
+/// Counts the fault of a call that failed.
+fn counted(faults: &mut FaultCount, done: io::Result<()>) -> Result<(), DiskFault>
+    ensures same { IsOk result ↔ IsOk done }
+    ensures none { OnOk result (faults.new ≡ faults.old) }
+    ensures once { OnErr result (faults.new ≡ raised faults.old) }
+    ensures cause { HasCause faults.old faults.new result }
+{
+    if done.is_err() {
+        faults.raise();
+        return Err(DiskFault);
+    }
+    Ok(())
+}
+
+impl<R: Files<File = File>> Disk for FileMedia<R> {
+    ghost use Rattle.std.specs.Prelude.{false};
+    ghost use Rattle.disk_model.specs.Disk.{blank};
+    ghost use Rattle.idedup_tool.specs.Image.{fixed_of};
+
+    ghost fixed = { λ m. fixed_of m.image };
+
+    ghost tells = { false };
+
+    ghost state = { λ _. blank 0 };
+
+    ghost past = { λ _. record { clock = 0; is_told = false; since = λ _ _. ⊥ } };
+
+    ghost faults = { λ m. m.faults };
+
+    ghost given = { λ m. m.given };
+
+    ghost has_size = { λ d tells. Prim.cc };
+
+    ghost now_counts = { λ d t told le. Prim.cc };
+
+    ghost only_now = { λ d s told stood. Prim.cc };
+
+    fn blocks(&self) -> u32 {
+        match &self.image {
+            Some(image) => image.count,
+            None => 0,
+        }
+    }
+
+    fn read_block(&mut self, at: BlockNo, into: &mut Block) -> Result<(), DiskFault> {
+        let done = match &self.image {
+            Some(image) => image.read(at, into),
+            None => unreachable!(),
+        };
+        counted(&mut self.faults, done)?;
+        self.given.note(at, into);
+        Ok(())
+    }
+
+    fn write_block(&mut self, at: BlockNo, from: &Block) -> Result<(), DiskFault> {
+        let done = match &self.image {
+            Some(image) => image.write(at, from),
+            None => unreachable!(),
+        };
+        counted(&mut self.faults, done)
+    }
+
+    fn sync(&mut self) -> Result<(), DiskFault> {
+        let done = match &self.image {
+            Some(image) => image.sync(),
+            None => Err(io::ErrorKind::NotConnected.into()),
+        };
+        counted(&mut self.faults, done)
+    }
+}
+
+impl<R: Files<File = File>> Media for FileMedia<R> {
+    fn open(&mut self, name: &str, blocks: Option<u32>) -> Result<(), OpenFault> {
+        match self.reopen(name, blocks) {
+            Ok(()) => Ok(()),
+            Err(error) => {
+                self.faults.raise();
+                Err(fault_of(&error))
+            }
+        }
+    }
+}
+
+fn fault_of(error: &io::Error) -> OpenFault {
+    if error.kind() == io::ErrorKind::OutOfMemory {
+        OpenFault::OutOfMemory
+    } else {
+        OpenFault::Failed
+    }
+}

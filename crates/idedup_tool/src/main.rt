@@ -1,0 +1,45 @@
+//! The program: an image in a file, standard input and standard output round the server's top call.
+#![tactic(auto)]
+
+ghost use Rattle.std.specs.Prelude.{◌≡◌};
+ghost use Rattle.std.specs.Process.{exit_status};
+ghost use Rattle.command_server.specs.Status.{number_of};
+
+mod file_media;
+mod image;
+mod std_sink;
+mod std_source;
+#[cfg(test)]
+mod tests;
+mod words;
+
+use command_server::{Status, run};
+use file_media::FileMedia;
+use std::process::ExitCode;
+use std_sink::StdSink;
+use std_source::StdSource;
+
+fn main(rt: HostRuntime) -> ExitCode {
+    exit_code(run_words(&rt))
+}
+
+/// The exit status that stands for a status.
+fn exit_code(status: Status) -> ExitCode
+    ensures { exit_status result ≡ number_of status }
+{
+    ExitCode::from(status.number())
+}
+
+/// Runs the program on the words behind its name.
+fn run_words(rt: &HostRuntime) -> Status {
+    let Ok(owned) = words::gather(rt) else {
+        return Status::NoMemory;
+    };
+    let Ok(words) = words::lent(rt.alloc(), &owned) else {
+        return Status::NoMemory;
+    };
+    let mut media = FileMedia::new(*rt);
+    let mut source = StdSource::new(rt.stdin());
+    let mut sink = StdSink::new(rt.stdout());
+    run(&words, &mut media, &mut source, &mut sink)
+}
