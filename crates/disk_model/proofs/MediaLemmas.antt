@@ -1,5 +1,5 @@
 -- The images of a medium in memory by their names, and its moments.
-use Rattle.std.proofs.Common.{◌≡◌, ◌≢◌, ◌⊎◌, inl, inr, ⊎_elim, ℕ, zero, suc, ◌+◌, ◌-◌, ◌<◌, ◌≤◌, ◌&&◌, Bool, true, false, List, [], ◌∷◌, ◌++◌, length, get_or, take, drop, IsTrue, refl, sym, ◌∙◌, ap, subst, arith}
+use Rattle.std.proofs.Common.{◌≡◌, ◌≢◌, ℕ, zero, suc, ◌+◌, ◌-◌, ◌<◌, Bool, true, false, List, [], ◌∷◌, length, get_or, refl, sym, ◌∙◌, ap, subst, arith}
 use Rattle.std.specs.Prelude.{cond, not, nat_lt, is_some, Option, Some, None, option_map, bytes_eq, string_bytes, slice_set, slice_get, if◌then◌else◌}
 use Rattle.std.specs.List.{remove, position, position_or_len}
 use Rattle.std.proofs.lemmas.Bool.{false≢true}
@@ -8,10 +8,8 @@ use Rattle.std.proofs.lemmas.Bool.Decides.{nat_tests}
 use Rattle.std.proofs.lemmas.Slice.Eq.{bytes_eq-Decides}
 use Rattle.std.proofs.lemmas.List.Quantifiers.{position-Some}
 use Rattle.disk_model.specs.Disk.{State}
-use Rattle.disk_model.specs.Past.{Past, Adds, HasBegun}
-use Rattle.disk_model.specs.Memory.{Cells, told, past_of, StoodSince, stands_now}
+use Rattle.disk_model.specs.Past.{Past, Adds}
 use Rattle.disk_model.specs.Named.{find_named, state_of, later_by}
-use Rattle.disk_model.specs.declared.record.Step.{Step}
 use Rattle.disk_model.specs.Lending.{with_named, with_other, SetsImage}
 use Rattle.disk_model.specs.Media.{is_name_of}
 use Rattle.disk_model.specs.declared.mem_disk.MemDisk.{MemDisk}

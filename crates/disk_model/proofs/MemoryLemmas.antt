@@ -1,14 +1,14 @@
 -- One more step joins the record of a disk in memory.
-use Rattle.std.proofs.Common.{◌≡◌, ◌≢◌, ◌⊎◌, inl, inr, ⊎_elim, ℕ, zero, suc, ◌+◌, ◌<◌, ◌≤◌, Bool, true, false, List, [], ◌∷◌, ◌++◌, length, get_or, drop, Vec, IsTrue, refl, sym, ◌∙◌, ap, subst, arith, length-append, add-zero, zero-add}
-use Rattle.std.specs.Prelude.{slice_set, replicate, if◌then◌else◌, ◌==◌, nat_lt, Some}
+use Rattle.std.proofs.Common.{◌≡◌, ◌≢◌, ◌⊎◌, inl, inr, ⊎_elim, ℕ, zero, suc, ◌+◌, ◌<◌, ◌≤◌, Bool, true, false, List, [], ◌∷◌, ◌++◌, length, get_or, drop, IsTrue, refl, sym, ◌∙◌, ap, subst, arith, length-append, add-zero, zero-add}
+use Rattle.std.specs.Prelude.{slice_set, replicate}
 use Rattle.std.specs.List.{AllByRecursion}
 use Rattle.std.proofs.lemmas.List.{get_or_past, drop-append-le, drop_all, length-set, set-set, set-get_or}
 use Rattle.std.proofs.lemmas.Bool.{cases_lt, false≢true}
 use Rattle.std.proofs.lemmas.Bool.Decides.{nat_tests}
 use Rattle.vol_numbers.specs.Block.{zero_block}
 use Rattle.vol_numbers.specs.declared.block.Block.{Block}
-use Rattle.disk_model.specs.Disk.{State, blank, included, written, synced, DuringWrite, DuringSync, is_among, picked, IsImage}
-use Rattle.disk_model.specs.Past.{Past, Adds, Keeps}
+use Rattle.disk_model.specs.Disk.{State, blank, included, written, synced, is_among, picked, IsImage}
+use Rattle.disk_model.specs.Past.{Adds, Keeps}
 use Rattle.disk_model.proofs.Moments.{slice_get-set_other}
 use Rattle.disk_model.specs.declared.pick.Pick.{Pick}
 use Rattle.disk_model.specs.Memory.{Cells, numbers_from, told, undone, all_undone, StoodSince, past_of, IsSyncOf}

@@ -17,7 +17,12 @@ struct Ended {
 }
 
 fn run_over(alloc: Global, media: &mut MemMedia, words: &[&str]) -> Result<Ended, AllocError> {
-    run_into(alloc, media, words, MemSink::new(alloc, ROOM, CallList::new(alloc))?)
+    run_into(
+        alloc,
+        media,
+        words,
+        MemSink::new(alloc, ROOM, CallList::new(alloc))?,
+    )
 }
 
 fn run_into(
@@ -58,9 +63,18 @@ fn tells_how_much_is_free(rt: HostRuntime) -> Result<(), Fail> {
     let alloc = rt.alloc();
     // The area less 2: it begins behind 3 blocks, two homes of a count block for each 1,024 blocks begun, the log and 32 more.
     let rows: [(&[&str], &[u8]); 3] = [
-        (&["format", "v", "--blocks", "2048", "--log", "64"], b"formatted free=1943\n"),
-        (&["format", "v", "--log", "64", "--blocks", "165"], b"formatted free=62\n"),
-        (&["format", "v", "--blocks", "8192"], b"formatted free=7115\n"),
+        (
+            &["format", "v", "--blocks", "2048", "--log", "64"],
+            b"formatted free=1943\n",
+        ),
+        (
+            &["format", "v", "--log", "64", "--blocks", "165"],
+            b"formatted free=62\n",
+        ),
+        (
+            &["format", "v", "--blocks", "8192"],
+            b"formatted free=7115\n",
+        ),
     ];
     for (words, text) in rows {
         let mut media = MemMedia::new(alloc);
@@ -75,11 +89,15 @@ fn tells_how_much_is_free(rt: HostRuntime) -> Result<(), Fail> {
 fn writes_the_root_as_the_format_says(rt: HostRuntime) -> Result<(), Fail> {
     let alloc = rt.alloc();
     let mut media = MemMedia::new(alloc);
-    run_over(alloc, &mut media, &["format", "v", "--blocks", "2048", "--log", "64"])?;
+    run_over(
+        alloc,
+        &mut media,
+        &["format", "v", "--blocks", "2048", "--log", "64"],
+    )?;
     let root = block_at(&mut media, 1).ok_or("no root")?;
     let head: [u8; 48] = [
-        0x49, 0x44, 0x45, 0x44, 0x55, 0x50, 0x46, 0x53, 1, 0, 0, 0, 0, 8, 0, 0, 0x40, 0, 0, 0, 0, 0, 0, 0, 0,
-        0, 0, 0, 0, 0, 0, 0, 0x68, 0, 0, 0, 0, 0, 0, 0, 0, 0, 0, 0, 0, 0, 0, 0,
+        0x49, 0x44, 0x45, 0x44, 0x55, 0x50, 0x46, 0x53, 1, 0, 0, 0, 0, 8, 0, 0, 0x40, 0, 0, 0, 0,
+        0, 0, 0, 0, 0, 0, 0, 0, 0, 0, 0, 0x68, 0, 0, 0, 0, 0, 0, 0, 0, 0, 0, 0, 0, 0, 0, 0,
     ];
     assert!(rt; root.bytes[..48] == head[..]);
     assert!(rt; root.bytes[48..].iter().all(|byte| *byte == 0));
@@ -145,7 +163,10 @@ fn ends_with_sink_failed(rt: HostRuntime) -> Result<(), Fail> {
     let alloc = rt.alloc();
     let mut fails = Vec::new(alloc);
     fails.push(0)?;
-    let rows: [&[&str]; 2] = [&["format", "v", "--blocks", "165", "--log", "64"], &["serve"]];
+    let rows: [&[&str]; 2] = [
+        &["format", "v", "--blocks", "165", "--log", "64"],
+        &["serve"],
+    ];
     let mut media = MemMedia::new(alloc);
     for words in rows {
         let small = MemSink::new(alloc, 17, CallList::new(alloc))?;
@@ -162,8 +183,16 @@ fn ends_with_sink_failed(rt: HostRuntime) -> Result<(), Fail> {
 fn leaves_other_images_alone(rt: HostRuntime) -> Result<(), Fail> {
     let alloc = rt.alloc();
     let mut media = MemMedia::new(alloc);
-    run_over(alloc, &mut media, &["format", "one", "--blocks", "2048", "--log", "64"])?;
-    run_over(alloc, &mut media, &["format", "two", "--blocks", "165", "--log", "64"])?;
+    run_over(
+        alloc,
+        &mut media,
+        &["format", "one", "--blocks", "2048", "--log", "64"],
+    )?;
+    run_over(
+        alloc,
+        &mut media,
+        &["format", "two", "--blocks", "165", "--log", "64"],
+    )?;
     assert!(rt; media.open("one", None).is_ok());
     assert!(rt; media.blocks() == 2048);
     assert!(rt; block_at(&mut media, 103).is_some_and(|inodes| inodes.bytes[64] == 2));

@@ -1,4 +1,4 @@
-use Rattle.std.proofs.Common.{Option, Some, None, List, ◌≡◌, sym, ◌∙◌, ap}
+use Rattle.std.proofs.Common.{Some, None, List, ◌≡◌, sym, ◌∙◌, ap}
 use Rattle.std.specs.List.{position}
 use Rattle.disk_model.specs.declared.named.Named.{Named}
 use Rattle.disk_model.proofs.MediaLemmas.{has_name, none_placed, find_placed, find_other}

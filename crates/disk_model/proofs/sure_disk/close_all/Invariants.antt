@@ -1,4 +1,4 @@
-use Rattle.std.proofs.Common.{◌≡◌, ℕ, ◌<◌, get_or, Bool, true, false}
+use Rattle.std.proofs.Common.{◌≡◌, ℕ, ◌<◌, get_or, true, false}
 use Rattle.disk_model.proofs.sure_disk.close_all.Given as goal
 
 abbrev pub invariant-loop-is_unsynced : goal.invariant-loop-is_unsynced

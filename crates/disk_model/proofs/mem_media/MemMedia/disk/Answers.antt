@@ -1,4 +1,4 @@
-use Rattle.std.proofs.Common.{Option, Some, None, List, ◌≡◌, false, refl, sym, ◌∙◌, ap, string_bytes, option_map}
+use Rattle.std.proofs.Common.{Some, None, List, ◌≡◌, false, refl, sym, ◌∙◌, ap, string_bytes, option_map}
 use Rattle.std.specs.List.{position}
 use Rattle.disk_model.specs.Media.{is_name_of}
 use Rattle.disk_model.specs.declared.named.Named.{Named}

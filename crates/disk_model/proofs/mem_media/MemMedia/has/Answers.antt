@@ -1,4 +1,4 @@
-use Rattle.std.proofs.Common.{Option, List, ◌≡◌, ℕ, is_some, sym, ◌∙◌, ap}
+use Rattle.std.proofs.Common.{Option, List, ℕ, is_some, sym, ◌∙◌, ap}
 use Rattle.std.specs.List.{position}
 use Rattle.disk_model.specs.declared.named.Named.{Named}
 use Rattle.disk_model.proofs.MediaLemmas.{has_name, found_placed, other_image}

@@ -1,8 +1,7 @@
-use Rattle.std.proofs.Common.{Option, Some, None, List, ◌≡◌, ◌<◌, length, refl, sym, ◌∙◌, ap, subst, arith, slice_get, option_map}
+use Rattle.std.proofs.Common.{Option, Some, ◌≡◌, refl, sym, ap, arith, slice_get, option_map}
 use Rattle.std.proofs.lemmas.Option.{slice_get_read}
 use Rattle.disk_model.specs.Lending.{with_named}
 use Rattle.disk_model.specs.declared.named.Named.{Named}
-use Rattle.disk_model.specs.declared.mem_disk.MemDisk.{MemDisk}
 use Rattle.disk_model.proofs.mem_media.MemMedia.other_disk.Goals as goal
 
 pub returns : goal.returns

@@ -1,5 +1,5 @@
-use Rattle.std.proofs.Common.{Some, ap, ◌∙◌, inr, subst, Bool, List}
-use Rattle.disk_model.specs.Memory.{told, Cells, IsSyncOf}
+use Rattle.std.proofs.Common.{inr, subst, Bool, List}
+use Rattle.disk_model.specs.Memory.{Cells, IsSyncOf}
 use Rattle.disk_model.proofs.MemoryLemmas.{Notes, adds_noted, keeps_noted, told_sync, undone_sync}
 use Rattle.disk_model.proofs.sure_disk.SureDiskDisk.sync.Goals as goal
 

@@ -1,6 +1,6 @@
-use Rattle.std.proofs.Common.{Some, ap, ◌∙◌, ◌<◌, length, arith, true}
+use Rattle.std.proofs.Common.{◌<◌, length, arith, true}
 use Rattle.std.specs.Prelude.{slice_set}
-use Rattle.disk_model.specs.Memory.{told, Cells}
+use Rattle.disk_model.specs.Memory.{Cells}
 use Rattle.disk_model.proofs.MemoryLemmas.{Notes, adds_noted, keeps_noted, told_write, undone_write}
 use Rattle.disk_model.proofs.sure_disk.SureDiskDisk.write_block.Goals as goal
 
