@@ -2,3 +2,4 @@ pub mod Current
 pub mod Fields
 pub mod Homes
 pub mod Root
+pub mod Switch

@@ -5,9 +5,11 @@ mod fields;
 mod homes;
 mod laws;
 mod root;
+mod switch;
 #[cfg(test)]
 mod tests;
 
 pub use homes::HomeBits;
 pub use laws::{root_of_spelling, same_root, spelling_reads_back};
 pub use root::{RootBody, RootShape, read_root, write_root};
+pub use switch::commit;
