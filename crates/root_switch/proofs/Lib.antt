@@ -1,2 +1,3 @@
+pub mod CurrentLemmas
 pub mod RootLaws
 pub mod SwitchLemmas

@@ -4,6 +4,7 @@
 mod fields;
 mod homes;
 mod laws;
+mod reading;
 mod root;
 mod switch;
 #[cfg(test)]
@@ -11,5 +12,6 @@ mod tests;
 
 pub use homes::HomeBits;
 pub use laws::{root_of_spelling, same_root, spelling_reads_back};
+pub use reading::{Current, RootFault, read_current};
 pub use root::{RootBody, RootShape, read_root, write_root};
 pub use switch::commit;

@@ -31,6 +31,7 @@ pub enum RootShape {
 /// The root that a block spells.
 pub fn read_root(from: &Block) -> Result<RootBody, RootShape>
     ensures ok { IfOk result (λ body. SpellsRoot body from.now) }
+    ensures fields { IfOk result (λ body. root_of body ≡ root_in from.now.bytes) }
     ensures found { IsOk result ↔ (HasShape from.now.bytes × HasGeometry (root_in from.now.bytes)) }
     ensures no_root { IsErrOf result NoRoot ↔ (¬ HasShape from.now.bytes) }
     ensures bad_geometry { IsErrOf result BadGeometry ↔ (HasShape from.now.bytes × (¬ HasGeometry (root_in from.now.bytes))) }
