@@ -3,10 +3,14 @@ pub mod Blocks
 pub mod Ends
 pub mod Formatting
 pub mod Fresh
+pub mod Image
+pub mod Laws
 pub mod MemEnds
 pub mod Putting
+pub mod Record
 pub mod Run
 pub mod Status
 pub mod Text
 pub mod Texts
+pub mod Tree
 pub mod Words

@@ -5,6 +5,8 @@ mod formatting;
 mod fresh;
 mod mem_sink;
 mod mem_source;
+mod meaning;
+mod record;
 mod reply;
 mod running;
 mod sink;

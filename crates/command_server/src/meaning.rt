@@ -1,0 +1,31 @@
+//! Laws of what an image stands for. Whatever carries images from one state to the next rests on these alone.
+ghost use Rattle.std.specs.Prelude.{◌≡◌, ℕ, List, [], ◌∷◌, ◌+◌, ◌≤◌, ◌≢◌, false, length, slice_get, Some, bytes_eq};
+ghost use Rattle.vol_numbers.specs.declared.block.Block.{Block};
+ghost use Rattle.disk_model.specs.Disk.{State, IsImage, EachImage};
+ghost use Rattle.command_server.specs.Image.{Stands, KeepsLive};
+ghost use Rattle.command_server.specs.Laws.{OneMeaning, KeptMeaning, ImagesStand, NextStands, OneSpelling};
+
+/// An image stands for one list of files at most.
+pub fn one_meaning()
+    ensures { OneMeaning }
+{}
+
+/// An image with the same root and the same live blocks stands for the same.
+pub fn kept_meaning()
+    ensures { KeptMeaning }
+{}
+
+/// Where no live block is unsynced, nor the selector and the root that it names, each image stands for what the contents stand for.
+pub fn images_stand()
+    ensures { ImagesStand }
+{}
+
+/// With a record behind the log and a root that counts it, an image stands for one file more.
+pub fn next_stands()
+    ensures { NextStands }
+{}
+
+/// Each name has one record, and each record one name.
+pub fn one_spelling()
+    ensures { OneSpelling }
+{}
