@@ -24,6 +24,7 @@ module _ (s : State) (slot at : ℕ) (root : RootBody) (body : Block) (is_body :
   -- while the other slot is written, and until that is on the disk
   pub other_written : (block : Block) → EachImage (OldOrNew s slot root) (written at block s)
   other_written block image is = inl (record {
+    as_long = is.as_long ∙ length-set s.contents at block;
     root = same_root image s.contents slot current.slot_is (kept 0 (omega arith) current.selector_synced) (kept (1 + slot) (omega arith) current.slot_synced);
     others = λ k not_selector not_other closed. kept k (λ e. not_other (e ∙ other)) closed;
   })
@@ -42,15 +43,20 @@ module _ (s : State) (slot at : ℕ) (root : RootBody) (body : Block) (is_body :
   pub selector_written : (block : Block) → EachImage (OldOrNew s slot root) (written 0 block staged)
   selector_written block image is = ⊎_elim
       (λ e. inl (record {
+        as_long = long;
         root = at_slot e ∙ kept (1 + slot) (omega arith) ∙ slice_get-set_other s.contents at (1 + slot) body (omega (arith, other)) ∙ sym (ap (λ (k : ℕ). slice_get s.contents (1 + k)) current.slot_is);
         others = λ k not_selector not_other closed. untouched k not_selector not_other;
       }))
       (λ e. let is_other : 1 + (1 - slot) ≡ at = omega (arith, other) in inr (record {
+        as_long = long;
         root = at_slot e ∙ ap (λ (k : ℕ). slice_get image k) is_other ∙ kept at (omega (arith, other)) ∙ slice_get-set_same s.contents at body (omega (arith, other, room)) ∙ ap (λ (b : Block). Some b) is_body;
         others = untouched;
       }))
       (either_slot (current_slot image) slot (omega arith) is_slot)
     where
+      long : length image ≡ length s.contents
+      long = is.as_long ∙ length-set (slice_set s.contents at body) 0 block ∙ length-set s.contents at body
+
       kept : (k : ℕ) → k ≢ 0 → slice_get image k ≡ slice_get (slice_set s.contents at body) k
       kept k ne = kept_in_image staged 0 block image k is ne refl
 

@@ -18,11 +18,13 @@ pub record IsCurrent (slot : ℕ) (s : State) : Type 0 where
 
 -- The image has the root of before, and each block that was synced, but for the selector and the other slot.
 pub record HasOldRoot (before : State) (slot : ℕ) (image : List Block) : Type 0 where
+  pub as_long : length image ≡ length before.contents
   pub root : current_root image ≡ current_root before.contents
   pub others : (k : ℕ) → k ≢ 0 → k ≢ 2 - slot → is_among before.unsynced k ≡ false → slice_get image k ≡ slice_get before.contents k
 
 -- The image has the new root, and each block as it was before, but for the selector and the other slot: unsynced ones too.
 pub record HasNewRoot (before : State) (slot : ℕ) (body : RootBody) (image : List Block) : Type 0 where
+  pub as_long : length image ≡ length before.contents
   pub root : current_root image ≡ Some (spelled_root body)
   pub others : (k : ℕ) → k ≢ 0 → k ≢ 2 - slot → slice_get image k ≡ slice_get before.contents k
 
