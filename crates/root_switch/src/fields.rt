@@ -77,7 +77,8 @@ impl Fields {
 
     /// The one block with these fields.
     pub(crate) fn spelled(&self) -> [u8; 4096]
-        ensures { result ≡ root_bytes (root_from self.now) }
+        ensures spelled { result ≡ root_bytes (root_from self.now) }
+        ensures reads_back { root_in result ≡ root_from self.now }
     {
         let mut bytes = [0; 4096];
         bytes[..176].copy_from_slice(&self.header());
@@ -85,8 +86,9 @@ impl Fields {
     }
 
     /// Its bytes up to the home bits.
-    fn header(&self) -> [u8; 176]
-        ensures { result ≡ header_bytes (root_from self.now) }
+    fn header(self) -> [u8; 176]
+        ensures spelled { result ≡ header_bytes (root_from self) }
+        ensures reads_back { root_in (root_bytes (root_from self)) ≡ root_from self }
     {
         let mut bytes = [0; 176];
         bytes[..8].copy_from_slice(b"IDEDUPFS");

@@ -45,7 +45,8 @@ pub fn read_root(from: &Block) -> Result<RootBody, RootShape>
 
 /// Writes the one block that spells a root.
 pub fn write_root(body: &RootBody, into: &mut Block)
-    ensures { into.new.bytes ≡ root_bytes (root_of body.now) }
+    ensures spelled { into.new.bytes ≡ root_bytes (root_of body.now) }
+    ensures reads_back { root_in into.new.bytes ≡ root_of body.now }
 {
     into.bytes = Fields::of(body).spelled();
 }

@@ -4,7 +4,7 @@ ghost use Rattle.vol_numbers.specs.Cause.{HasCause};
 ghost use Rattle.vol_numbers.specs.Geometry.{layout_of};
 ghost use Rattle.disk_model.specs.Disk.{EachImage};
 ghost use Rattle.disk_model.specs.Past.{Adds};
-ghost use Rattle.root_switch.specs.Root.{root_of, HasGeometry};
+ghost use Rattle.root_switch.specs.Root.{root_of, root_in, root_bytes, HasGeometry};
 ghost use Rattle.root_switch.specs.Switch.{IsCurrent, OldOrNew, IsSwitched, spelled_root};
 
 use crate::{RootBody, write_root};
@@ -20,6 +20,8 @@ pub fn commit<D: Disk>(disk: &mut D, slot: u32, body: &RootBody) -> Result<u32, 
     requires current { IsTrue D.tells → IsCurrent slot (D.state disk.old) }
 
     ensures slot { IfOk result (λ other. other ≡ 1 - slot) }
+    // What is read of the new root is this one.
+    ensures reads_back { root_in (root_bytes (root_of body.now)) ≡ root_of body.now }
     // At each moment of the call each image has the old root or the new one, and no other block is lost.
     ensures during { IsTrue D.tells → Adds (D.past disk.old) (D.past disk.new) (EachImage (OldOrNew (D.state disk.old) slot body.now)) }
     ensures switched { OnOk result (IsTrue D.tells → IsSwitched (D.state disk.old) slot body.now (D.state disk.new)) }
@@ -39,7 +41,8 @@ pub fn commit<D: Disk>(disk: &mut D, slot: u32, body: &RootBody) -> Result<u32, 
 
 /// The block that spells a root.
 fn root_block(body: &RootBody) -> Block
-    ensures { result ≡ spelled_root body.now }
+    ensures spelled { result ≡ spelled_root body.now }
+    ensures reads_back { root_in (root_bytes (root_of body.now)) ≡ root_of body.now }
 {
     let mut block = Block::zero();
     write_root(body, &mut block);

@@ -17,7 +17,7 @@ returns-in_err-write_through-clause-during g c tells =
     let room : 3 ≤ length s.contents = omega (arith, c.requires.size, c.requires.grammar.valid.area_at_least, g.met.D.Disk.has_size c.args.disk.now tells) in
     let other : 1 + (1 - c.args.slot) ≡ 2 - c.args.slot = omega (arith, c.requires.slot) in
     let Q = EachImage (OldOrNew s c.args.slot body) in
-    let one = adds_write_through c.root_block.result Q s (adds_none _ Q) refl (c.write_through.ensures.moments tells) (other_written s c.args.slot _ body _ c.root_block.ensures c.requires.slot room other (c.requires.current tells)) (other_synced s c.args.slot _ body _ c.root_block.ensures c.requires.slot room other (c.requires.current tells)) in
+    let one = adds_write_through c.root_block.result Q s (adds_none _ Q) refl (c.write_through.ensures.moments tells) (other_written s c.args.slot _ body _ c.root_block.ensures.spelled c.requires.slot room other (c.requires.current tells)) (other_synced s c.args.slot _ body _ c.root_block.ensures.spelled c.requires.slot room other (c.requires.current tells)) in
     one
 
 pub returns-in_err-write_through-2-clause-during : goal.returns-in_err-write_through-2-clause-during
@@ -27,9 +27,9 @@ returns-in_err-write_through-2-clause-during g c tells =
     let room : 3 ≤ length s.contents = omega (arith, c.requires.size, c.requires.grammar.valid.area_at_least, g.met.D.Disk.has_size c.args.disk.now tells) in
     let other : 1 + (1 - c.args.slot) ≡ 2 - c.args.slot = omega (arith, c.requires.slot) in
     let Q = EachImage (OldOrNew s c.args.slot body) in
-    let one = adds_write_through c.root_block.result Q s (adds_none _ Q) refl (c.write_through.ensures.moments tells) (other_written s c.args.slot _ body _ c.root_block.ensures c.requires.slot room other (c.requires.current tells)) (other_synced s c.args.slot _ body _ c.root_block.ensures c.requires.slot room other (c.requires.current tells)) in
+    let one = adds_write_through c.root_block.result Q s (adds_none _ Q) refl (c.write_through.ensures.moments tells) (other_written s c.args.slot _ body _ c.root_block.ensures.spelled c.requires.slot room other (c.requires.current tells)) (other_synced s c.args.slot _ body _ c.root_block.ensures.spelled c.requires.slot room other (c.requires.current tells)) in
     let is_one = c.in_ok-write_through.ensures.done tells in
-    let two = adds_write_through c.selector.result Q _ one is_one (c.write_through-2.ensures.moments tells) (selector_written s c.args.slot _ body _ c.root_block.ensures c.requires.slot room other (c.requires.current tells)) (selector_is_synced s c.args.slot _ body _ c.root_block.ensures c.requires.slot room other (c.requires.current tells) _) in
+    let two = adds_write_through c.selector.result Q _ one is_one (c.write_through-2.ensures.moments tells) (selector_written s c.args.slot _ body _ c.root_block.ensures.spelled c.requires.slot room other (c.requires.current tells)) (selector_is_synced s c.args.slot _ body _ c.root_block.ensures.spelled c.requires.slot room other (c.requires.current tells) _) in
     two
 
 pub returns-clause-during : goal.returns-clause-during
@@ -39,9 +39,9 @@ returns-clause-during g c tells =
     let room : 3 ≤ length s.contents = omega (arith, c.requires.size, c.requires.grammar.valid.area_at_least, g.met.D.Disk.has_size c.args.disk.now tells) in
     let other : 1 + (1 - c.args.slot) ≡ 2 - c.args.slot = omega (arith, c.requires.slot) in
     let Q = EachImage (OldOrNew s c.args.slot body) in
-    let one = adds_write_through c.root_block.result Q s (adds_none _ Q) refl (c.write_through.ensures.moments tells) (other_written s c.args.slot _ body _ c.root_block.ensures c.requires.slot room other (c.requires.current tells)) (other_synced s c.args.slot _ body _ c.root_block.ensures c.requires.slot room other (c.requires.current tells)) in
+    let one = adds_write_through c.root_block.result Q s (adds_none _ Q) refl (c.write_through.ensures.moments tells) (other_written s c.args.slot _ body _ c.root_block.ensures.spelled c.requires.slot room other (c.requires.current tells)) (other_synced s c.args.slot _ body _ c.root_block.ensures.spelled c.requires.slot room other (c.requires.current tells)) in
     let is_one = c.in_ok-write_through.ensures.done tells in
-    let two = adds_write_through c.selector.result Q _ one is_one (c.write_through-2.ensures.moments tells) (selector_written s c.args.slot _ body _ c.root_block.ensures c.requires.slot room other (c.requires.current tells)) (selector_is_synced s c.args.slot _ body _ c.root_block.ensures c.requires.slot room other (c.requires.current tells) _) in
+    let two = adds_write_through c.selector.result Q _ one is_one (c.write_through-2.ensures.moments tells) (selector_written s c.args.slot _ body _ c.root_block.ensures.spelled c.requires.slot room other (c.requires.current tells)) (selector_is_synced s c.args.slot _ body _ c.root_block.ensures.spelled c.requires.slot room other (c.requires.current tells) _) in
     two
 
 pub returns-in_err-write_through-clause-left : goal.returns-in_err-write_through-clause-left
@@ -50,7 +50,7 @@ returns-in_err-write_through-clause-left g c = on_err c.from_residual.result (λ
     let body = c.args.body.now in
     let room : 3 ≤ length s.contents = omega (arith, c.requires.size, c.requires.grammar.valid.area_at_least, g.met.D.Disk.has_size c.args.disk.now tells) in
     let other : 1 + (1 - c.args.slot) ≡ 2 - c.args.slot = omega (arith, c.requires.slot) in
-    left_other s c.args.slot _ body _ c.root_block.ensures c.requires.slot room other (c.requires.current tells) (c.in_err-write_through.ensures.left tells))
+    left_other s c.args.slot _ body _ c.root_block.ensures.spelled c.requires.slot room other (c.requires.current tells) (c.in_err-write_through.ensures.left tells))
 
 pub returns-in_err-write_through-2-clause-left : goal.returns-in_err-write_through-2-clause-left
 returns-in_err-write_through-2-clause-left g c = on_err c.from_residual-in_err-write_through-2.result (λ tells.
@@ -58,7 +58,7 @@ returns-in_err-write_through-2-clause-left g c = on_err c.from_residual-in_err-w
     let body = c.args.body.now in
     let room : 3 ≤ length s.contents = omega (arith, c.requires.size, c.requires.grammar.valid.area_at_least, g.met.D.Disk.has_size c.args.disk.now tells) in
     let other : 1 + (1 - c.args.slot) ≡ 2 - c.args.slot = omega (arith, c.requires.slot) in
-    left_selector s c.args.slot _ body _ c.root_block.ensures c.requires.slot room other (c.requires.current tells) (c.in_ok-write_through.ensures.done tells) (c.in_err-write_through-2.ensures.left tells))
+    left_selector s c.args.slot _ body _ c.root_block.ensures.spelled c.requires.slot room other (c.requires.current tells) (c.in_ok-write_through.ensures.done tells) (c.in_err-write_through-2.ensures.left tells))
 
 pub returns-clause-switched : goal.returns-clause-switched
 returns-clause-switched g c tells =
@@ -67,4 +67,13 @@ returns-clause-switched g c tells =
     let room : 3 ≤ length s.contents = omega (arith, c.requires.size, c.requires.grammar.valid.area_at_least, g.met.D.Disk.has_size c.args.disk.now tells) in
     let other : 1 + (1 - c.args.slot) ≡ 2 - c.args.slot = omega (arith, c.requires.slot) in
     let is_two = c.in_ok-write_through-2.ensures.done tells ∙ ap (λ (m : State). synced (written 0 c.selector.result m)) (c.in_ok-write_through.ensures.done tells) in
-    subst (IsSwitched s c.args.slot body) (sym is_two) (switched s c.args.slot _ body _ c.root_block.ensures c.requires.slot room other (c.requires.current tells) c.selector.result c.selector.ensures)
+    subst (IsSwitched s c.args.slot body) (sym is_two) (switched s c.args.slot _ body _ c.root_block.ensures.spelled c.requires.slot room other (c.requires.current tells) c.selector.result c.selector.ensures)
+
+pub returns-in_err-write_through-clause-reads_back : goal.returns-in_err-write_through-clause-reads_back
+returns-in_err-write_through-clause-reads_back g c = c.root_block.ensures.reads_back
+
+pub returns-in_err-write_through-2-clause-reads_back : goal.returns-in_err-write_through-2-clause-reads_back
+returns-in_err-write_through-2-clause-reads_back g c = c.root_block.ensures.reads_back
+
+pub returns-clause-reads_back : goal.returns-clause-reads_back
+returns-clause-reads_back g c = c.root_block.ensures.reads_back
