@@ -1,3 +1,4 @@
+pub mod AppendLemmas
 pub mod BlockLemmas
 pub mod FormatLemmas
 pub mod NumberLemmas

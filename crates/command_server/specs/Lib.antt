@@ -1,6 +1,7 @@
 pub mod Asked
 pub mod Blocks
 pub mod Ends
+pub mod Fits
 pub mod Formatting
 pub mod Fresh
 pub mod Image
@@ -10,6 +11,7 @@ pub mod Putting
 pub mod Record
 pub mod Run
 pub mod Status
+pub mod Step
 pub mod Text
 pub mod Texts
 pub mod Tree

@@ -2,16 +2,18 @@
 #![tactic(auto)]
 
 mod formatting;
+mod command;
 mod fresh;
+mod meaning;
 mod mem_sink;
 mod mem_source;
-mod meaning;
 mod record;
 mod reply;
 mod running;
 mod sink;
 mod source;
 mod status;
+mod volume;
 mod words;
 
 pub use formatting::format;

@@ -10,7 +10,7 @@ use Rattle.root_switch.specs.Switch.{IsCurrent, OldOrNew, IsSwitched, spelled_ro
 use Rattle.root_switch.specs.declared.root.RootBody.{RootBody}
 
 -- two images with one selector and one block in the slot that it names have one root
-same_root : (image before : List Block) (slot : ℕ) → current_slot before ≡ slot → slice_get image 0 ≡ slice_get before 0 → slice_get image (1 + slot) ≡ slice_get before (1 + slot)
+pub same_root : (image before : List Block) (slot : ℕ) → current_slot before ≡ slot → slice_get image 0 ≡ slice_get before 0 → slice_get image (1 + slot) ≡ slice_get before (1 + slot)
     → current_root image ≡ current_root before
 same_root image before slot cur first there =
     let names : current_slot image ≡ slot = ap (λ (b : Option Block). unwrap_or (option_map (λ (b : Block). slice_index b.bytes 0) b) 0 % 2) first ∙ cur in
