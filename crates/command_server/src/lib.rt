@@ -3,9 +3,9 @@
 
 mod formatting;
 mod fresh;
+mod meaning;
 mod mem_sink;
 mod mem_source;
-mod meaning;
 mod record;
 mod reply;
 mod running;
