@@ -74,20 +74,20 @@ module _ (s : State) (slot : ℕ) (b next : RootBody) (names : List (List ℕ)) 
 
   pub torn_stands : (torn : Block) → EachImage (StandsForSome names (name ∷ [])) (written at torn s)
   torn_stands torn image is = none_of image (kept old image names (record {
-      as_long = is.as_long ∙ length-set old at torn;
-      root = same_root image old slot fits.slot_is (stays 0 (omega (arith, far))) (stays (1 + slot) (omega (arith, far, is_slot)));
-      live = λ k live. stays k (elsewhere k live).1;
-    }) fits.stands)
+    as_long = is.as_long ∙ length-set old at torn;
+    root = same_root image old slot fits.slot_is (stays 0 (omega (arith, far))) (stays (1 + slot) (omega (arith, far, is_slot)));
+    live = λ k live. stays k (elsewhere k live).1;
+  }) fits.stands)
     where
       stays : (k : ℕ) → k ≢ at → slice_get image k ≡ slice_get old k
       stays k ne = kept_in_image s at torn image k is ne (was_synced k)
 
   old_stands : (image : List Block) → HasOldRoot (written at block s) slot image → StandsForSome names (name ∷ []) image
   old_stands image has = none_of image (kept old image names (record {
-      as_long = has.as_long ∙ length-set old at block;
-      root = has.root ∙ same_root (slice_set old at block) old slot fits.slot_is (slice_get-set_other old at 0 block (omega (arith, far))) (slice_get-set_other old at (1 + slot) block (omega (arith, far, is_slot)));
-      live = λ k live. let there = elsewhere k live in has.others k (omega (arith, there.0)) (omega (arith, there.0)) (closed k there.1) ∙ slice_get-set_other old at k block there.1;
-    }) fits.stands)
+    as_long = has.as_long ∙ length-set old at block;
+    root = has.root ∙ same_root (slice_set old at block) old slot fits.slot_is (slice_get-set_other old at 0 block (omega (arith, far))) (slice_get-set_other old at (1 + slot) block (omega (arith, far, is_slot)));
+    live = λ k live. let there = elsewhere k live in has.others k (omega (arith, there.0)) (omega (arith, there.0)) (closed k there.1) ∙ slice_get-set_other old at k block there.1;
+  }) fits.stands)
 
   says : (image : List Block) → HasNewRoot (written at block s) slot next image → root_of_image image ≡ root_of next
   says image has = ap root_in (ap (λ (o : Option Block). (unwrap_or o zero_block).bytes) has.root) ∙ reads_back

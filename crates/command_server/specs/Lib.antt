@@ -1,12 +1,16 @@
 pub mod Asked
 pub mod Blocks
 pub mod Ends
+pub mod Finding
 pub mod Fits
 pub mod Formatting
 pub mod Fresh
 pub mod Image
 pub mod Laws
+pub mod Lines
+pub mod Lining
 pub mod MemEnds
+pub mod Mounting
 pub mod Putting
 pub mod Record
 pub mod Run

@@ -1,12 +1,15 @@
 //! The server's top call: words, an image, a source and a sink in, a status out.
 #![tactic(auto)]
 
-mod formatting;
 mod command;
+mod finding;
+mod formatting;
 mod fresh;
+mod lines;
 mod meaning;
 mod mem_sink;
 mod mem_source;
+mod mounting;
 mod record;
 mod reply;
 mod running;
