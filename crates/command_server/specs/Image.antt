@@ -1,12 +1,11 @@
 -- What an image stands for, and what is wrong with one that stands for nothing.
-use Rattle.std.specs.Prelude.{◌≡◌, ◌⊎◌, ◌<◌, ◌≤◌, ℕ, ◌+◌, ◌*◌, false, List, [], ◌∷◌, length, take, drop, replicate, slice_get, Option, Some, IfSome}
+use Rattle.std.specs.Prelude.{◌≡◌, ◌<◌, ℕ, ◌+◌, ◌*◌, List, [], ◌∷◌, length, take, drop, replicate, slice_get, Some}
 use Rattle.vol_numbers.specs.Layout.{Layout, count_blocks, log_start, area_start}
 use Rattle.vol_numbers.specs.declared.block.Block.{Block}
-use Rattle.disk_model.specs.Disk.{State, is_among}
 use Rattle.root_switch.specs.Current.{current_root, root_of_image, HasRoot, FitsImage}
 use Rattle.command_server.specs.Blocks.{count_block, index_block, inode_block}
 use Rattle.command_server.specs.Record.{IsRecord}
-use Rattle.command_server.specs.Tree.{has_name, AddsEach}
+use Rattle.command_server.specs.Tree.{AddsEach}
 
 abbrev pub layout_in : List Block → Layout
 layout_in image = (root_of_image image).layout

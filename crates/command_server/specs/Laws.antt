@@ -1,10 +1,9 @@
 -- Laws of what an image stands for.
-use Rattle.std.specs.Prelude.{◌≡◌, ℕ, ◌+◌, false, List, [], ◌∷◌, ◌++◌, length, slice_get, Some}
+use Rattle.std.specs.Prelude.{◌≡◌, ℕ, ◌+◌, false, List, length, slice_get, Some}
 use Rattle.vol_numbers.specs.declared.block.Block.{Block}
 use Rattle.vol_numbers.specs.Layout.{log_start}
 use Rattle.disk_model.specs.Disk.{State, IsImage, is_among}
-use Rattle.root_switch.specs.Current.{current_slot, root_bytes_in, root_of_image, HasRoot, FitsImage}
-use Rattle.root_switch.specs.Root.{root_bytes}
+use Rattle.root_switch.specs.Current.{current_slot, root_of_image, HasRoot, FitsImage}
 use Rattle.command_server.specs.Record.{IsRecord}
 use Rattle.command_server.specs.Tree.{has_name, and_name}
 use Rattle.command_server.specs.Image.{Stands, IsLive, KeepsLive, layout_in, records_in, used_in}

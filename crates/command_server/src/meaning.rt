@@ -1,8 +1,4 @@
 //! Laws of what an image stands for. Whatever carries images from one state to the next rests on these alone.
-ghost use Rattle.std.specs.Prelude.{◌≡◌, ℕ, List, [], ◌∷◌, ◌+◌, ◌≤◌, ◌≢◌, false, length, slice_get, Some, bytes_eq};
-ghost use Rattle.vol_numbers.specs.declared.block.Block.{Block};
-ghost use Rattle.disk_model.specs.Disk.{State, IsImage, EachImage};
-ghost use Rattle.command_server.specs.Image.{Stands, KeepsLive};
 ghost use Rattle.command_server.specs.Laws.{OneMeaning, KeptMeaning, ImagesStand, NextStands, OneSpelling};
 
 /// An image stands for one list of files at most.
