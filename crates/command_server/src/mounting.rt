@@ -1,5 +1,5 @@
 //! Mounts a volume.
-ghost use Rattle.std.specs.Prelude.{◌≡◌, ◌<◌, ℕ, IfOk, OnOk, IfErr, IsErrOf, IsTrue};
+ghost use Rattle.std.specs.Prelude.{◌≡◌, ◌<◌, ◌≤◌, ℕ, IfOk, OnOk, IfErr, IsErrOf, IsTrue};
 ghost use Rattle.vol_numbers.specs.Cause.{Rose};
 ghost use Rattle.disk_model.specs.Disk.{DuringSync, synced};
 ghost use Rattle.disk_model.specs.Past.{Adds};
