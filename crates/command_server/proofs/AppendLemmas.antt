@@ -26,12 +26,9 @@ live_elsewhere image valid room k inodes = (omega arith, omega (arith, room))
 live_elsewhere image valid room k index = (omega arith, omega (arith, room))
 live_elsewhere image valid room k (logged i lt) = (omega arith, omega (arith, lt))
 
-module _ (s : State) (slot : ℕ) (b next : RootBody) (names : List (List ℕ)) (name : List ℕ) (block : Block) (at : ℕ)
+module _ (s : State) (slot : ℕ) (b : RootBody) (names : List (List ℕ)) (name : List ℕ) (block : Block) (at : ℕ)
     (fits : Fits slot (root_of b) names s) (is_slot : slot < 2) (room : b.log_used < (root_of b).layout.log_blocks)
-    (at_is : at ≡ log_start (root_of b).layout + b.log_used)
-    (next_is : root_of next ≡ record (root_of b) { records = b.records + 1; log_used = b.log_used + 1 }) (grammar : HasGeometry (root_of next))
-    (reads_back : root_in (root_bytes (root_of next)) ≡ root_of next)
-    (new : has_name names name ≡ false) (is_record : IsRecord name block.bytes) (kept : KeptMeaning) (nexts : NextStands) where
+    (at_is : at ≡ log_start (root_of b).layout + b.log_used) (kept : KeptMeaning) where
   abbrev old : List Block
   old = s.contents
 
@@ -82,39 +79,45 @@ module _ (s : State) (slot : ℕ) (b next : RootBody) (names : List (List ℕ)) 
       stays : (k : ℕ) → k ≢ at → slice_get image k ≡ slice_get old k
       stays k ne = kept_in_image s at torn image k is ne (was_synced k)
 
-  old_stands : (image : List Block) → HasOldRoot (written at block s) slot image → StandsForSome names (name ∷ []) image
-  old_stands image has = none_of image (kept old image names (record {
+  pub old_stands : (next : RootBody) (image : List Block) → HasOldRoot (written at block s) slot image → StandsForSome names (name ∷ []) image
+  old_stands next image has = none_of image (kept old image names (record {
     as_long = has.as_long ∙ length-set old at block;
     root = has.root ∙ same_root (slice_set old at block) old slot fits.slot_is (slice_get-set_other old at 0 block (omega (arith, far))) (slice_get-set_other old at (1 + slot) block (omega (arith, far, is_slot)));
     live = λ k live. let there = elsewhere k live in has.others k (omega (arith, there.0)) (omega (arith, there.0)) (closed k there.1) ∙ slice_get-set_other old at k block there.1;
   }) fits.stands)
 
+module _ (s : State) (slot : ℕ) (b : RootBody) (names : List (List ℕ)) (name : List ℕ) (block : Block) (at : ℕ)
+    (fits : Fits slot (root_of b) names s) (is_slot : slot < 2) (room : b.log_used < (root_of b).layout.log_blocks)
+    (at_is : at ≡ log_start (root_of b).layout + b.log_used) (kept : KeptMeaning) (next : RootBody)
+    (next_is : root_of next ≡ record (root_of b) { records = b.records + 1; log_used = b.log_used + 1 }) (grammar : HasGeometry (root_of next))
+    (reads_back : root_in (root_bytes (root_of next)) ≡ root_of next)
+    (new : has_name names name ≡ false) (is_record : IsRecord name block.bytes) (nexts : NextStands) where
   says : (image : List Block) → HasNewRoot (written at block s) slot next image → root_of_image image ≡ root_of next
   says image has = ap root_in (ap (λ (o : Option Block). (unwrap_or o zero_block).bytes) has.root) ∙ reads_back
 
   new_stands : (image : List Block) → HasNewRoot (written at block s) slot next image → Stands image (and_name names name)
   new_stands image has =
-      let long : length image ≡ length old = has.as_long ∙ length-set old at block in
+      let long : length image ≡ length s.contents = has.as_long ∙ length-set s.contents at block in
       let is : root_of_image image ≡ record (root_of b) { records = b.records + 1; log_used = b.log_used + 1 } = says image has ∙ next_is in
-      let blocks : (layout_in image).blocks ≡ (layout_in old).blocks = ap (λ (r : Root). r.layout.blocks) is ∙ sym (ap (λ (r : Root). r.layout.blocks) fits.root_is) in
-      nexts old image name names (record {
+      let blocks : (layout_in image).blocks ≡ (layout_in s.contents).blocks = ap (λ (r : Root). r.layout.blocks) is ∙ sym (ap (λ (r : Root). r.layout.blocks) fits.root_is) in
+      nexts s.contents image name names (record {
         as_long = long;
         root = record { slots = omega (arith, long, fits.stands.root.slots); shape = ap (λ (o : Option Block). (unwrap_or o zero_block).bytes) has.root ∙ ap root_bytes (sym (says image has)) };
         fits = record { geometry = subst HasGeometry (sym (says image has)) grammar; size = blocks ∙ fits.stands.fits.size ∙ sym long };
-        layout = ap (λ (r : Root). r.layout) is ∙ sym layout_is;
+        layout = ap (λ (r : Root). r.layout) is ∙ sym (layout_is s slot b names name block at fits is_slot room at_is kept);
         point = ap (λ (r : Root). r.point) is ∙ sym (ap (λ (r : Root). r.point) fits.root_is);
         inode_index = ap (λ (r : Root). r.inode_index) is ∙ sym (ap (λ (r : Root). r.inode_index) fits.root_is);
         homes = ap (λ (r : Root). r.homes) is ∙ sym (ap (λ (r : Root). r.homes) fits.root_is);
         records = ap (λ (r : Root). r.records) is ∙ sym (ap (λ (r : Root). r.records + 1) fits.root_is);
         used = ap (λ (r : Root). r.log_used) is ∙ sym (ap (λ (r : Root). r.log_used + 1) fits.root_is);
-        live = λ k live. let there = elsewhere k live in has.others k (omega (arith, there.0)) (omega (arith, there.0)) ∙ slice_get-set_other old at k block there.1;
+        live = λ k live. let there = elsewhere s slot b names name block at fits is_slot room at_is kept k live in has.others k (omega (arith, there.0)) (omega (arith, there.0)) ∙ slice_get-set_other s.contents at k block there.1;
         block = block;
-        logged = ap (λ (k : ℕ). slice_get image k) (sym at_old) ∙ has.others at (omega (arith, far)) (omega (arith, far)) ∙ slice_get-set_same old at block within;
+        logged = ap (λ (k : ℕ). slice_get image k) (sym (at_old s slot b names name block at fits is_slot room at_is kept)) ∙ has.others at (omega (arith, (far s slot b names name block at fits is_slot room at_is kept))) (omega (arith, (far s slot b names name block at fits is_slot room at_is kept))) ∙ slice_get-set_same s.contents at block (within s slot b names name block at fits is_slot room at_is kept);
         spelled = is_record;
       }) fits.stands new
 
   pub any_stands : (image : List Block) → OldOrNew (written at block s) slot next image → StandsForSome names (name ∷ []) image
-  any_stands image either = ⊎_elim (old_stands image) (λ has. record { count = 1; within = omega arith; stands = new_stands image has }) either
+  any_stands image either = ⊎_elim (old_stands s slot b names name block at fits is_slot room at_is kept next image) (λ has. record { count = 1; within = omega arith; stands = new_stands image has }) either
 
   pub switched_fits : (t : State) → IsSwitched (written at block s) slot next t → Fits (1 - slot) (root_of next) (and_name names name) t
   switched_fits t is =

@@ -9,7 +9,8 @@ use vol_numbers::{Block, Name};
 
 /// The record of a name.
 pub(crate) fn record_block(name: &Name) -> Block
-    ensures { result.bytes ≡ record_bytes name.now }
+    ensures spelled { result.bytes ≡ record_bytes name.now }
+    ensures record_of { IsRecord name.now result.bytes }
 {
     let name = name.as_bytes();
     let mut bytes = [0; 4096];

@@ -12,5 +12,5 @@ pub returns-else-eq-clause-none : goal.returns-else-eq-clause-none
 returns-else-eq-clause-none c = λ name is.
     let bytes = c.args.block.now.bytes in
     let same : c.in_ok-name.name ≡ name = c.in_ok-name.ensures.found ∙ name_in-spelled name bytes is in
-    let spelled : c.record_block.result.bytes ≡ bytes = c.record_block.ensures ∙ ap record_bytes same ∙ sym is.spelled in
+    let spelled : c.record_block.result.bytes ≡ bytes = c.record_block.ensures.spelled ∙ ap record_bytes same ∙ sym is.spelled in
     false≢true (c.if-eq.ensures ∙ (bytes_eq-Decides c.record_block.result.bytes bytes).1 spelled)
