@@ -5,4 +5,6 @@ pub mod ImageLaws
 pub mod NumberLemmas
 pub mod PutLemmas
 pub mod RecordLemmas
+pub mod SessionLemmas
+pub mod StepLemmas
 pub mod WordLemmas
