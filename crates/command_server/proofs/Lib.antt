@@ -1,3 +1,4 @@
+pub mod AnswerLemmas
 pub mod AppendLemmas
 pub mod BlockLemmas
 pub mod FormatLemmas
