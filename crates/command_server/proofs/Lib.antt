@@ -6,4 +6,5 @@ pub mod ImageLaws
 pub mod NumberLemmas
 pub mod PutLemmas
 pub mod RecordLemmas
+pub mod TakeLemmas
 pub mod WordLemmas

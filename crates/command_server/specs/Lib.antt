@@ -16,6 +16,7 @@ pub mod Record
 pub mod Run
 pub mod Status
 pub mod Step
+pub mod Taking
 pub mod Text
 pub mod Texts
 pub mod Tree
