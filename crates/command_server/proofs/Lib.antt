@@ -1,3 +1,4 @@
+pub mod AnswerLemmas
 pub mod AppendLemmas
 pub mod BlockLemmas
 pub mod FormatLemmas
@@ -7,4 +8,5 @@ pub mod PutLemmas
 pub mod RecordLemmas
 pub mod SessionLemmas
 pub mod StepLemmas
+pub mod TakeLemmas
 pub mod WordLemmas

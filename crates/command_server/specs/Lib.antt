@@ -17,6 +17,7 @@ pub mod Run
 pub mod Session
 pub mod Status
 pub mod Step
+pub mod Taking
 pub mod Text
 pub mod Texts
 pub mod Tree

@@ -1,5 +1,5 @@
 -- The commands in the bytes of a session, and the text of its answers.
-use Rattle.std.specs.Prelude.{◌≡◌, ℕ, ◌+◌, ◌<◌, ◌==◌, ◌&&◌, not, nat_le, nat_lt, if◌then◌else◌, Bool, true, false, List, [], ◌∷◌, length, take, drop, codes, bytes_eq, position, Option, Some, None}
+use Rattle.std.specs.Prelude.{◌≡◌, ℕ, ◌+◌, ◌==◌, ◌&&◌, not, nat_le, if◌then◌else◌, Bool, true, false, List, [], ◌∷◌, length, take, drop, codes, bytes_eq, position, Option, Some, None}
 use Rattle.std.specs.List.{list_all, flat_map}
 use Rattle.command_server.specs.declared.command.Command.{Command}
 use Rattle.command_server.specs.declared.command.Command.TheVariants.{Create, Unknown, End}
@@ -62,3 +62,7 @@ text_of LogFull = codes "refused 16 LogFull\n"
 
 abbrev pub texts_of : List Answer → List ℕ
 texts_of answers = flat_map text_of answers
+
+-- No two lists of answers have one text.
+abbrev pub TextsTell : Type 0
+TextsTell = (one two : List Answer) → texts_of one ≡ texts_of two → one ≡ two

@@ -5,6 +5,7 @@ mod command;
 mod finding;
 mod formatting;
 mod fresh;
+mod input;
 mod lines;
 mod meaning;
 mod mem_sink;

@@ -1,7 +1,10 @@
 //! The lines that a run writes.
+ghost use Rattle.std.specs.Prelude.{◌≡◌};
+ghost use Rattle.command_server.specs.Lines.{text_of, TextsTell};
 ghost use Rattle.command_server.specs.Texts.{usage_text, formatted_text};
 ghost use Rattle.command_server.specs.Putting.{PutsText};
 
+use crate::command::Answer;
 use crate::{Sink, SinkFault};
 use arrayvec::ArrayString;
 use itoa::Buffer;
@@ -24,3 +27,28 @@ pub(crate) fn put_formatted<W: Sink>(sink: &mut W, free: u32) -> Result<(), Sink
     line.push_str("\n");
     sink.put(line.as_str().as_bytes())
 }
+
+/// Puts an answer.
+pub(crate) fn put_answer<W: Sink>(sink: &mut W, answer: Answer) -> Result<(), SinkFault>
+    ensures { PutsText (W.seen sink.old) (W.seen sink.new) (text_of answer) result }
+{
+    sink.put(text_of(answer))
+}
+
+/// The line of an answer.
+fn text_of(answer: Answer) -> &'static [u8]
+    ensures { result.now ≡ text_of answer }
+{
+    match answer {
+        Answer::Done => b"ok\n",
+        Answer::BadCommand => b"refused 1 BadCommand\n",
+        Answer::Exists => b"refused 6 Exists\n",
+        Answer::OutOfMemory => b"refused 15 OutOfMemory\n",
+        Answer::LogFull => b"refused 16 LogFull\n",
+    }
+}
+
+/// No two lists of answers have one text.
+pub fn texts_tell_answers()
+    ensures { TextsTell }
+{}
