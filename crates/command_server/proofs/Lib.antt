@@ -7,6 +7,7 @@ pub mod NumberLemmas
 pub mod PutLemmas
 pub mod RecordLemmas
 pub mod SessionLemmas
+pub mod ShorterLemmas
 pub mod StepLemmas
 pub mod TakeLemmas
 pub mod WordLemmas

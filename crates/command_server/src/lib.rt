@@ -15,6 +15,7 @@ mod names;
 mod record;
 mod reply;
 mod running;
+mod serving;
 mod sink;
 mod source;
 mod status;

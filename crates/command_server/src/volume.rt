@@ -41,21 +41,21 @@ impl LogVolume {
     pub(crate) fn apply<D: Disk>(
         &mut self,
         disk: &mut D,
-        command: Command,
+        command: &Command,
     ) -> Result<Answer, Stopped>
         requires size { (root_of self.old.current.body).layout.blocks ≡ (D.fixed disk.old).size }
         requires fits { IsTrue D.tells → Fits self.old.current.slot (root_of self.old.current.body) self.old.names.items (D.state disk.old) }
 
-        ensures answer { IfOk result (Legal (root_of self.old.current.body).layout.log_blocks self.old.names.items command) }
-        ensures names { IfOk result (λ answer. self.new.names.items ≡ self.old.names.items ++ accepted command answer) }
+        ensures answer { IfOk result (Legal (root_of self.old.current.body).layout.log_blocks self.old.names.items command.now) }
+        ensures names { IfOk result (λ answer. self.new.names.items ≡ self.old.names.items ++ accepted command.now answer) }
         ensures layout { (root_of self.new.current.body).layout ≡ (root_of self.old.current.body).layout }
         ensures fits { OnOk result (IsTrue D.tells → Fits self.new.current.slot (root_of self.new.current.body) self.new.names.items (D.state disk.new)) }
 
         // At each moment each image stands for the files of before or for those after the command, and so does what a failure leaves.
         ensures during { IsTrue D.tells → Adds (D.past disk.old) (D.past disk.new)
-            (EachImage (StandsForSome self.old.names.items (added (root_of self.old.current.body).layout.log_blocks self.old.names.items command result))) }
+            (EachImage (StandsForSome self.old.names.items (added (root_of self.old.current.body).layout.log_blocks self.old.names.items command.now result))) }
         ensures left { OnErr result (IsTrue D.tells
-            → EachImage (StandsForSome self.old.names.items (added (root_of self.old.current.body).layout.log_blocks self.old.names.items command result)) (D.state disk.new)) }
+            → EachImage (StandsForSome self.old.names.items (added (root_of self.old.current.body).layout.log_blocks self.old.names.items command.now result)) (D.state disk.new)) }
         ensures unsynced { OnErr result (IsTrue D.tells → (D.state disk.new).unsynced ≢ []) }
 
         ensures fixed { D.fixed disk.new ≡ D.fixed disk.old }
@@ -68,22 +68,22 @@ impl LogVolume {
         }
     }
 
-    fn create<D: Disk>(&mut self, disk: &mut D, name: Name) -> Result<Answer, Stopped>
+    fn create<D: Disk>(&mut self, disk: &mut D, name: &Name) -> Result<Answer, Stopped>
         requires size { (root_of self.old.current.body).layout.blocks ≡ (D.fixed disk.old).size }
         requires fits { IsTrue D.tells → Fits self.old.current.slot (root_of self.old.current.body) self.old.names.items (D.state disk.old) }
-        ensures answer { IfOk result (Legal (root_of self.old.current.body).layout.log_blocks self.old.names.items (Create name)) }
-        ensures names { IfOk result (λ answer. self.new.names.items ≡ self.old.names.items ++ accepted (Create name) answer) }
+        ensures answer { IfOk result (Legal (root_of self.old.current.body).layout.log_blocks self.old.names.items (Create name.now)) }
+        ensures names { IfOk result (λ answer. self.new.names.items ≡ self.old.names.items ++ accepted (Create name.now) answer) }
         ensures layout { (root_of self.new.current.body).layout ≡ (root_of self.old.current.body).layout }
         ensures fits { OnOk result (IsTrue D.tells → Fits self.new.current.slot (root_of self.new.current.body) self.new.names.items (D.state disk.new)) }
         ensures during { IsTrue D.tells → Adds (D.past disk.old) (D.past disk.new)
-            (EachImage (StandsForSome self.old.names.items (added (root_of self.old.current.body).layout.log_blocks self.old.names.items (Create name) result))) }
+            (EachImage (StandsForSome self.old.names.items (added (root_of self.old.current.body).layout.log_blocks self.old.names.items (Create name.now) result))) }
         ensures left { OnErr result (IsTrue D.tells
-            → EachImage (StandsForSome self.old.names.items (added (root_of self.old.current.body).layout.log_blocks self.old.names.items (Create name) result)) (D.state disk.new)) }
+            → EachImage (StandsForSome self.old.names.items (added (root_of self.old.current.body).layout.log_blocks self.old.names.items (Create name.now) result)) (D.state disk.new)) }
         ensures unsynced { OnErr result (IsTrue D.tells → (D.state disk.new).unsynced ≢ []) }
         ensures fixed { D.fixed disk.new ≡ D.fixed disk.old }
         ensures cause { HasCause (D.faults disk.old) (D.faults disk.new) result }
     {
-        if has_name(&self.names, &name) {
+        if has_name(&self.names, name) {
             return Ok(Answer::Exists);
         }
         if self.current.body.log_used >= self.current.body.geometry.log_blocks() {
@@ -92,11 +92,11 @@ impl LogVolume {
         if self.names.reserve(1).is_err() {
             return Ok(Answer::OutOfMemory);
         }
-        match append(disk, &self.current, &self.names, &name) {
+        match append(disk, &self.current, &self.names, name) {
             Ok(next) => {
                 self.current = next;
                 // There is room.
-                let _is_kept = self.names.push(name).is_ok();
+                let _is_kept = self.names.push(*name).is_ok();
                 Ok(Answer::Done)
             }
             Err(DiskFault) => Err(Stopped),
