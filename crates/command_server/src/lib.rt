@@ -10,6 +10,7 @@ mod meaning;
 mod mem_sink;
 mod mem_source;
 mod mounting;
+mod names;
 mod record;
 mod reply;
 mod running;
