@@ -28,19 +28,19 @@ spells_one (b ∷ blocks) (n ∷ names) (o ∷ others) spells other =
     λ i. head i ∷ tail i
 
 -- one block and one name more
-spells_more : (blocks : List Block) (names : List (List ℕ)) (block : Block) (name : List ℕ) → Spells blocks names → IsRecord name block.bytes → Spells (blocks ++ block ∷ []) (names ++ name ∷ [])
+pub spells_more : (blocks : List Block) (names : List (List ℕ)) (block : Block) (name : List ℕ) → Spells blocks names → IsRecord name block.bytes → Spells (blocks ++ block ∷ []) (names ++ name ∷ [])
 spells_more [] [] block name spells is = (is, tt)
 spells_more [] (n ∷ names) block name spells is = absurd spells
 spells_more (b ∷ blocks) [] block name spells is = absurd spells
 spells_more (b ∷ blocks) (n ∷ names) block name spells is = (spells.0, spells_more blocks names block name spells.1 is)
 
 -- one file more
-adds_more : (earlier names : List (List ℕ)) (name : List ℕ) → AddsEach earlier names → has_name (earlier ++ names) name ≡ false → AddsEach earlier (names ++ name ∷ [])
+pub adds_more : (earlier names : List (List ℕ)) (name : List ℕ) → AddsEach earlier names → has_name (earlier ++ names) name ≡ false → AddsEach earlier (names ++ name ∷ [])
 adds_more earlier [] name adds new = (ap (λ (l : List (List ℕ)). has_name l name) (sym (append-nil earlier)) ∙ new, tt)
 adds_more earlier (n ∷ names) name adds new =
     (adds.0, adds_more (and_name earlier n) names name adds.1 (ap (λ (l : List (List ℕ)). has_name l name) (append_assoc earlier (n ∷ []) names) ∙ new))
 
-slice_get-drop : {X : Type 0} (start i : ℕ) (xs : List X) → slice_get (drop start xs) i ≡ slice_get xs (start + i)
+pub slice_get-drop : {X : Type 0} (start i : ℕ) (xs : List X) → slice_get (drop start xs) i ≡ slice_get xs (start + i)
 slice_get-drop zero i xs = ap (λ (k : ℕ). slice_get xs k) (sym (zero-add i))
 slice_get-drop (suc start) i [] = refl
 slice_get-drop (suc start) i (x ∷ xs) = slice_get-drop start i xs ∙ ap (λ (k : ℕ). slice_get (x ∷ xs) k) (sym (suc-add start i))
@@ -62,7 +62,7 @@ same_part : {X : Type 0} (start n : ℕ) (xs ys : List X) → ((i : ℕ) → i <
 same_part start n xs ys same =
     same_front n (drop start xs) (drop start ys) (λ i lt. slice_get-drop start i xs ∙ same i lt ∙ sym (slice_get-drop start i ys))
 
-take_next : {X : Type 0} (n : ℕ) (xs : List X) (x : X) → slice_get xs n ≡ Some x → take (suc n) xs ≡ take n xs ++ x ∷ []
+pub take_next : {X : Type 0} (n : ℕ) (xs : List X) (x : X) → slice_get xs n ≡ Some x → take (suc n) xs ≡ take n xs ++ x ∷ []
 take_next n [] x there = cc
 take_next zero (y ∷ ys) x there = let same : y ≡ x = cc in ap (λ (z : _). z ∷ []) same
 take_next (suc n) (y ∷ ys) x there = ap (λ (l : List _). y ∷ l) (take_next n ys x there)

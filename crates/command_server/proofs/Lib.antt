@@ -3,6 +3,7 @@ pub mod AppendLemmas
 pub mod BlockLemmas
 pub mod FormatLemmas
 pub mod ImageLaws
+pub mod MountLemmas
 pub mod NumberLemmas
 pub mod PutLemmas
 pub mod RecordLemmas
