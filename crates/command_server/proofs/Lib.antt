@@ -2,6 +2,7 @@ pub mod AnswerLemmas
 pub mod AppendLemmas
 pub mod BlockLemmas
 pub mod FormatLemmas
+pub mod FreshLemmas
 pub mod ImageLaws
 pub mod MountLemmas
 pub mod NumberLemmas

@@ -1,22 +1,22 @@
 -- What a mount reads, and what the image stands for.
-use Rattle.std.proofs.Common.{◌≡◌, ◌∙◌, ◌+◌, ◌*◌, ◌<◌, ◌≤◌, ◌↔◌, ◌⊎◌, inl, inr, ℕ, zero, suc, Bool, true, false, List, [], ◌∷◌, ◌++◌, length, take, drop, Option, Some, refl, sym, ap, subst, arith, add-one, IsTrue}
+use Rattle.std.proofs.Common.{◌≡◌, ◌∙◌, ◌+◌, ◌<◌, ◌≤◌, ◌↔◌, inl, ℕ, zero, suc, Bool, true, false, List, [], ◌∷◌, ◌++◌, length, take, drop, Option, Some, refl, sym, ap, subst, arith, add-one, IsTrue}
 use Rattle.std.specs.Prelude.{slice_get, IfSome, bytes_eq, ◌||◌, get_or, if◌then◌else◌}
 use Rattle.std.proofs.Math.Seq.{drop-cons}
 use Rattle.std.proofs.lemmas.Bool.{false≢true}
-use Rattle.vol_numbers.specs.Layout.{Layout, count_blocks, log_start, area_start}
+use Rattle.vol_numbers.specs.Layout.{Layout, log_start, area_start}
 use Rattle.vol_numbers.specs.declared.block.Block.{Block}
 use Rattle.disk_model.specs.Disk.{State}
 use Rattle.disk_model.specs.Past.{Past, Adds}
 use Rattle.disk_model.proofs.Moments.{adds_then}
 use Rattle.root_switch.specs.Root.{Root}
 use Rattle.root_switch.specs.Current.{root_of_image}
-use Rattle.command_server.specs.Blocks.{count_block, index_block, inode_block}
+use Rattle.command_server.specs.Blocks.{index_block, inode_block}
 use Rattle.command_server.specs.Record.{IsRecord}
 use Rattle.command_server.specs.Tree.{has_name, AddsEach}
-use Rattle.command_server.specs.Image.{Spells, IsBuilt, layout_in, records_in, used_in, log_in}
+use Rattle.command_server.specs.Image.{Spells, IsBuilt, layout_in, used_in, log_in}
 use Rattle.command_server.specs.Finding.{IsNoNext, HasBadLog}
 use Rattle.command_server.specs.Mounting.{HasFreshFields, HasCounts, HasInodes}
-use Rattle.command_server.proofs.ImageLaws.{spells_more, adds_more, slice_get-drop, take_next}
+use Rattle.command_server.proofs.ImageLaws.{spells_more, slice_get-drop, take_next}
 use Rattle.command_server.proofs.RecordLemmas.{one_name}
 
 -- a read after calls that changed nothing

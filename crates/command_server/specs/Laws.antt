@@ -1,11 +1,12 @@
 -- Laws of what an image stands for.
-use Rattle.std.specs.Prelude.{◌≡◌, ℕ, ◌+◌, false, List, length, slice_get, Some}
+use Rattle.std.specs.Prelude.{◌≡◌, ℕ, ◌+◌, false, List, [], length, slice_get, Some}
 use Rattle.vol_numbers.specs.declared.block.Block.{Block}
-use Rattle.vol_numbers.specs.Layout.{log_start}
+use Rattle.vol_numbers.specs.Layout.{Layout, IsValid, log_start}
 use Rattle.disk_model.specs.Disk.{State, IsImage, is_among}
 use Rattle.root_switch.specs.Current.{current_slot, root_of_image, HasRoot, FitsImage}
 use Rattle.command_server.specs.Record.{IsRecord}
 use Rattle.command_server.specs.Tree.{has_name, and_name}
+use Rattle.command_server.specs.Fresh.{IsFresh}
 use Rattle.command_server.specs.Image.{Stands, IsLive, KeepsLive, layout_in, records_in, used_in}
 
 abbrev pub OneSpelling : Type 0
@@ -44,3 +45,7 @@ pub record HasNext (old new : List Block) (name : List ℕ) : Type 0 where
 
 abbrev pub NextStands : Type 0
 NextStands = (old new : List Block) (name : List ℕ) (names : List (List ℕ)) → HasNext old new name → Stands old names → has_name names name ≡ false → Stands new (and_name names name)
+
+-- what a format leaves stands for no files
+abbrev pub FreshStands : Type 0
+FreshStands = (g : Layout) (image : List Block) → IsFresh g image → IsValid g → Stands image []

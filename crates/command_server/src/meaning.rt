@@ -1,5 +1,5 @@
 //! Laws of what an image stands for. Whatever carries images from one state to the next rests on these alone.
-ghost use Rattle.command_server.specs.Laws.{OneMeaning, KeptMeaning, ImagesStand, NextStands, OneSpelling};
+ghost use Rattle.command_server.specs.Laws.{OneMeaning, KeptMeaning, ImagesStand, NextStands, OneSpelling, FreshStands};
 
 /// An image stands for one list of files at most.
 pub fn one_meaning()
@@ -24,4 +24,9 @@ pub fn next_stands()
 /// Each name has one record, and each record one name.
 pub fn one_spelling()
     ensures { OneSpelling }
+{}
+
+/// A volume as a format leaves it stands for no files.
+pub fn fresh_stands()
+    ensures { FreshStands }
 {}

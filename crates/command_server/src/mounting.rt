@@ -1,7 +1,6 @@
 //! Mounts a volume.
-ghost use Rattle.std.specs.Prelude.{◌≡◌, ◌<◌, ◌≤◌, ◌↔◌, ◌+◌, ◌*◌, ℕ, [], length, false, take, slice_get, Some, IfOk, IfSome, IfNone, OnOk, IfErr, IsErrOf, IsTrue};
+ghost use Rattle.std.specs.Prelude.{◌≡◌, ◌<◌, ◌≤◌, ◌↔◌, [], length, false, slice_get, Some, IfOk, IfSome, IfNone, OnOk, IsErrOf, IsTrue};
 ghost use Rattle.vol_numbers.specs.Cause.{HasCause, Rose};
-ghost use Rattle.vol_numbers.specs.Layout.{count_blocks};
 ghost use Rattle.vol_numbers.specs.Geometry.{layout_of};
 ghost use Rattle.disk_model.specs.Disk.{DuringSync, synced};
 ghost use Rattle.disk_model.specs.Past.{Adds};
