@@ -6,6 +6,7 @@ pub mod FreshLemmas
 pub mod ImageLaws
 pub mod MountLemmas
 pub mod NumberLemmas
+pub mod OpeningLemmas
 pub mod PutLemmas
 pub mod RecordLemmas
 pub mod SessionLemmas

@@ -14,6 +14,7 @@ pub mod Mounting
 pub mod Putting
 pub mod Record
 pub mod Run
+pub mod Serves
 pub mod Serving
 pub mod Session
 pub mod Status

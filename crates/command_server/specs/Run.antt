@@ -1,10 +1,12 @@
 -- What a run does, by what the words ask for and by its status.
-use Rattle.std.specs.Prelude.{◌≡◌, ◌≢◌, ◌⊎◌, ℕ, List, length, Some}
+use Rattle.std.specs.Prelude.{◌≡◌, ◌≢◌, ◌⊎◌, ◌-◌, ℕ, List, length, Option, None, Some}
+use Rattle.vol_numbers.specs.Layout.{area_size}
 use Rattle.disk_model.specs.Disk.{State}
 use Rattle.disk_model.specs.Media.{Fixed, image_named}
 use Rattle.command_server.specs.Ends.{Output, Puts, PutsPart}
 use Rattle.command_server.specs.Formatting.{IsFormatted}
-use Rattle.command_server.specs.Words.{Request, Format}
+use Rattle.command_server.specs.Words.{Request, Format, Serve}
+use Rattle.command_server.specs.Texts.{usage_text, formatted_text}
 use Rattle.command_server.specs.declared.status.Status.{Status}
 use Rattle.command_server.specs.declared.status.Status.TheVariants.{Done, Usage, BadVolume, Device, SourceFailed, SinkFailed, NoMemory, BadStream, Budget}
 
@@ -20,18 +22,40 @@ PutsBy SourceFailed text old new = ⊥
 PutsBy BadStream text old new = ⊥
 PutsBy Budget text old new = ⊥
 
--- the action was done, whether or not the sink took the text of it
+-- What the sink gets, of words outside the table and of a format, after which two blocks of the area are taken: by the inode block and the
+-- inode index. What it gets in a session is said of the session.
+abbrev pub PutsFor : Option Request → Status → Output → Output → Type 0
+PutsFor None status old new = PutsBy status usage_text old new
+PutsFor (Some (Format image g)) status old new = PutsBy status (formatted_text (area_size g - 2)) old new
+PutsFor (Some (Serve image)) status old new = Unit {0}
+
+-- a session is asked for
+abbrev pub IsServe : Option Request → Type 0
+IsServe None = ⊥
+IsServe (Some (Format image g)) = ⊥
+IsServe (Some (Serve image)) = Unit {0}
+
+-- P holds of the image, if a session over it is asked for
+abbrev pub IfServe : Option Request → (List ℕ → Type 0) → Type 0
+IfServe None P = Unit {0}
+IfServe (Some (Format image g)) P = Unit {0}
+IfServe (Some (Serve image)) P = P image
+
+-- the format was done, whether or not the sink took the text of it
 abbrev pub IsActionDone : Status → Type 0
 IsActionDone status = (status ≡ Done) ⊎ (status ≡ SinkFailed)
 
--- the image that was asked for is open, nothing in it is unsynced, and it is a fresh volume
+-- after a format the image that was asked for is open, nothing in it is unsynced, and it is a fresh volume
 abbrev pub IsMade : Request → Fixed → State → Type 0
 IsMade (Format image g) fixed state = (fixed.current ≡ Some image) × IsFormatted g state
+IsMade (Serve image) fixed state = Unit {0}
 
 -- the images of all other names are as they were
 abbrev pub KeepsOthers : Request → Fixed → State → Fixed → State → Type 0
 KeepsOthers (Format image g) old old_state new new_state = (other : List ℕ) → other ≢ image → image_named new new_state other ≡ image_named old old_state other
+KeepsOthers (Serve image) old old_state new new_state = (other : List ℕ) → other ≢ image → image_named new new_state other ≡ image_named old old_state other
 
--- A moment of the run: the image has its blocks, and none of what they hold is promised; or nothing was opened, and this is the last moment.
+-- A moment of a format: the image has its blocks, and none of what they hold is promised; or nothing was opened, and this is the last moment.
 abbrev pub IsDuring : Request → State → State → Type 0
 IsDuring (Format image g) last s = (length s.contents ≡ g.blocks) ⊎ (s ≡ last)
+IsDuring (Serve image) last s = Unit {0}

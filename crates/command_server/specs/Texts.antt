@@ -1,7 +1,7 @@
 -- What a run writes.
-use Rattle.std.specs.Prelude.{ℕ, ◌-◌, List, [], ◌∷◌, ◌++◌, codes, decimal, Option, Some, None}
-use Rattle.vol_numbers.specs.Layout.{area_size}
-use Rattle.command_server.specs.Words.{Request, Format}
+use Rattle.std.specs.Prelude.{ℕ, List, ◌++◌, codes, decimal}
+use Rattle.command_server.specs.declared.finding.Finding.{Finding}
+use Rattle.command_server.specs.declared.finding.Finding.TheVariants.{NoRoot, BadGeometry, Unbuilt, BadLog}
 
 -- the line for words that are outside the table of actions
 abbrev pub usage_text : List ℕ
@@ -11,7 +11,13 @@ usage_text = codes "usage: idedup ACTION IMAGE [options]\n"
 abbrev pub formatted_text : ℕ → List ℕ
 formatted_text free = codes "formatted free=" ++ decimal free ++ codes "\n"
 
--- Two blocks of the area are taken by the inode block and the inode index.
-abbrev pub text_for : Option Request → List ℕ
-text_for None = usage_text
-text_for (Some (Format image g)) = formatted_text (area_size g - 2)
+-- the line for the first record of a log that is bad
+abbrev pub bad_log_text : ℕ → List ℕ
+bad_log_text index = codes "bad BadLog " ++ decimal index ++ codes "\n"
+
+-- the line that tells why an image stands for nothing
+abbrev pub finding_text : Finding → List ℕ
+finding_text NoRoot = codes "bad NoRoot\n"
+finding_text BadGeometry = codes "bad BadGeometry\n"
+finding_text Unbuilt = codes "bad Unbuilt\n"
+finding_text (BadLog index) = bad_log_text index

@@ -10,6 +10,8 @@ use Rattle.command_server.specs.declared.words.FormatOptions.{FormatOptions}
 -- to make a volume of this layout in the image of this name
 pub data Request : Type 0 where
   Format : List ℕ → Layout → Request
+  -- to serve a session over the volume in the image of this name
+  Serve : List ℕ → Request
 
 -- one digit, or more of which the first isn't 0
 abbrev pub has_first_digit : List ℕ → Bool
@@ -54,8 +56,19 @@ is_plain word = nat_lt 0 (length word) && not (slice_index word 0 == 45)
 abbrev pub format_of : List ℕ → FormatOptions → Option Request
 format_of image o = if is_layout (layout_in o) then Some (Format image (layout_in o)) else None
 
--- what the words ask for, if they are in the table of actions: `format IMAGE [--blocks N] [--log N]`
+-- a session takes no options yet
+abbrev pub serve_of : List ℕ → List (List ℕ) → Option Request
+serve_of image [] = Some (Serve image)
+serve_of image (option ∷ options) = None
+
+-- what the words behind an action and an image ask for
+abbrev pub action_of : List ℕ → List ℕ → List (List ℕ) → Option Request
+action_of action image options =
+    if bytes_eq action (codes "format") then option_and_then (format_of image) (with_options no_options options)
+    else if bytes_eq action (codes "serve") then serve_of image options
+    else None
+
+-- what the words ask for, if they are in the table of actions: `format IMAGE [--blocks N] [--log N]` or `serve IMAGE`
 abbrev pub request_of : List (List ℕ) → Option Request
-request_of (action ∷ image ∷ options) =
-    if bytes_eq action (codes "format") && is_plain image then option_and_then (format_of image) (with_options no_options options) else None
+request_of (action ∷ image ∷ options) = if is_plain image then action_of action image options else None
 request_of words = None

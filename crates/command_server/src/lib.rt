@@ -12,6 +12,7 @@ mod mem_sink;
 mod mem_source;
 mod mounting;
 mod names;
+mod opening;
 mod record;
 mod reply;
 mod running;

@@ -1,10 +1,11 @@
 //! The lines that a run writes.
 ghost use Rattle.std.specs.Prelude.{◌≡◌};
 ghost use Rattle.command_server.specs.Lines.{text_of, TextsTell};
-ghost use Rattle.command_server.specs.Texts.{usage_text, formatted_text};
+ghost use Rattle.command_server.specs.Texts.{usage_text, formatted_text, finding_text, bad_log_text};
 ghost use Rattle.command_server.specs.Putting.{PutsText};
 
 use crate::command::Answer;
+use crate::finding::Finding;
 use crate::{Sink, SinkFault};
 use arrayvec::ArrayString;
 use itoa::Buffer;
@@ -24,6 +25,29 @@ pub(crate) fn put_formatted<W: Sink>(sink: &mut W, free: u32) -> Result<(), Sink
     let mut digits = Buffer::new();
     line.push_str("formatted free=");
     line.push_str(digits.format(free));
+    line.push_str("\n");
+    sink.put(line.as_str().as_bytes())
+}
+
+/// Says why an image stands for nothing.
+pub(crate) fn put_finding<W: Sink>(sink: &mut W, finding: Finding) -> Result<(), SinkFault>
+    ensures { PutsText (W.seen sink.old) (W.seen sink.new) (finding_text finding) result }
+{
+    match finding {
+        Finding::NoRoot => sink.put(b"bad NoRoot\n"),
+        Finding::BadGeometry => sink.put(b"bad BadGeometry\n"),
+        Finding::Unbuilt => sink.put(b"bad Unbuilt\n"),
+        Finding::BadLog(index) => put_bad_log(sink, index),
+    }
+}
+
+fn put_bad_log<W: Sink>(sink: &mut W, index: u32) -> Result<(), SinkFault>
+    ensures { PutsText (W.seen sink.old) (W.seen sink.new) (bad_log_text index) result }
+{
+    let mut line = ArrayString::<32>::new();
+    let mut digits = Buffer::new();
+    line.push_str("bad BadLog ");
+    line.push_str(digits.format(index));
     line.push_str("\n");
     sink.put(line.as_str().as_bytes())
 }

@@ -1,23 +1,28 @@
 //! The top call.
-ghost use Rattle.std.specs.Prelude.{◌≡◌, ◌⊎◌, ◌≤◌, None, Some, IfSome, IsTrue};
+ghost use Rattle.std.specs.Prelude.{◌≡◌, ◌⊎◌, ◌≤◌, ◌-◌, None, Some, IfSome, IsTrue};
 ghost use Rattle.vol_numbers.specs.Cause.{Rose};
 ghost use Rattle.vol_numbers.specs.Geometry.{layout_of};
+ghost use Rattle.vol_numbers.specs.Layout.{area_size};
 ghost use Rattle.disk_model.specs.Past.{Adds};
 ghost use Rattle.command_server.specs.Words.{request_of, Format};
 ghost use Rattle.command_server.specs.Text.{texts};
-ghost use Rattle.command_server.specs.Texts.{text_for, usage_text, formatted_text};
-ghost use Rattle.command_server.specs.Run.{PutsBy, IsActionDone, IsMade, KeepsOthers, IsDuring};
+ghost use Rattle.command_server.specs.Texts.{usage_text, formatted_text};
+ghost use Rattle.command_server.specs.Run.{PutsBy, PutsFor, IsServe, IfServe, IsActionDone, IsMade, KeepsOthers, IsDuring};
+ghost use Rattle.command_server.specs.Serves.{Serves, ends_of};
 ghost use Rattle.command_server.specs.declared.status.Status.TheVariants.{Done, Usage, Device, SinkFailed};
 
 use crate::reply::{put_formatted, put_usage};
+use crate::opening::serve_image;
 use crate::words::{Request, read_words};
 use crate::{Sink, SinkFault, Source, Status, format};
 use disk_model::{DiskFault, Media, OpenFault};
+use std::alloc::Global;
 use vol_numbers::Geometry;
 
 /// Does what the words after the program's name ask for, over an image of the media, and answers how it ended. The table of actions is in
 /// `docs/FORMAT.md`.
 pub fn run<M: Media, R: Source, W: Sink>(
+    alloc: Global,
     words: &[&str],
     media: &mut M,
     source: &mut R,
@@ -31,19 +36,26 @@ pub fn run<M: Media, R: Source, W: Sink>(
     ensures sink_failed { result ≡ SinkFailed → Rose (W.seen sink.old).faults (W.seen sink.new).faults }
 
     // What is written, and what is made.
-    ensures put { PutsBy result (text_for (request_of (texts words.now))) (W.seen sink.old) (W.seen sink.new) }
+    ensures put { PutsFor (request_of (texts words.now)) result (W.seen sink.old) (W.seen sink.new) }
     ensures made { IsActionDone result → IsTrue M.tells → IfSome (request_of (texts words.now)) (λ request. IsMade request (M.fixed media.new) (M.state media.new)) }
     ensures moments { IsTrue M.tells → IfSome (request_of (texts words.now)) (λ request. Adds (M.past media.old) (M.past media.new) (IsDuring request (M.state media.new))) }
+
+    // A session.
+    ensures served { IfServe (request_of (texts words.now)) (λ image. Serves M.tells image
+        (ends_of (R.seen source.old) (W.seen sink.old) (M.fixed media.old) (M.state media.old) (M.past media.old) (M.faults media.old))
+        (ends_of (R.seen source.new) (W.seen sink.new) (M.fixed media.new) (M.state media.new) (M.past media.new) (M.faults media.new))
+        result) }
 
     // What stays.
     ensures others { IsTrue M.tells → IfSome (request_of (texts words.now)) (λ request.
         KeepsOthers request (M.fixed media.old) (M.state media.old) (M.fixed media.new) (M.state media.new)) }
     ensures untouched { request_of (texts words.now) ≡ None → media.new ≡ media.old }
-    ensures source { source.new ≡ source.old }
+    ensures source { ¬ IsServe (request_of (texts words.now)) → source.new ≡ source.old }
     ensures never_falls { M.faults media.old ≤ M.faults media.new }
 {
     match read_words(words) {
         Some(Request::Format { image, geometry }) => format_image(image, &geometry, media, sink),
+        Some(Request::Serve { image }) => serve_image(alloc, image, media, source, sink),
         None => refuse(sink),
     }
 }
@@ -70,7 +82,7 @@ fn format_image<M: Media, W: Sink>(
     ensures not_usage { result ≡ Usage → ⊥ }
     ensures device { result ≡ Device → Rose (M.faults media.old) (M.faults media.new) }
     ensures sink_failed { result ≡ SinkFailed → Rose (W.seen sink.old).faults (W.seen sink.new).faults }
-    ensures put { PutsBy result (text_for (Some (Format image.now (layout_of geometry.now)))) (W.seen sink.old) (W.seen sink.new) }
+    ensures put { PutsBy result (formatted_text (area_size (layout_of geometry.now) - 2)) (W.seen sink.old) (W.seen sink.new) }
     ensures made { IsActionDone result → IsTrue M.tells → IsMade (Format image.now (layout_of geometry.now)) (M.fixed media.new) (M.state media.new) }
     ensures moments { IsTrue M.tells → Adds (M.past media.old) (M.past media.new) (IsDuring (Format image.now (layout_of geometry.now)) (M.state media.new)) }
     ensures others { IsTrue M.tells → KeepsOthers (Format image.now (layout_of geometry.now)) (M.fixed media.old) (M.state media.old) (M.fixed media.new) (M.state media.new) }

@@ -1,6 +1,6 @@
 //! What the words of a call ask for, read by hand: the action, the image, and then pairs of an option and its value.
 ghost use Rattle.std.specs.Prelude.{◌≡◌, ◌∷◌, map, Some, None, option_and_then, true, false, MatchOption};
-ghost use Rattle.command_server.specs.Words.{no_options, request_of, format_of, with_options, with_option, number_in, layout_in, is_layout, is_decimal, has_first_digit, is_plain};
+ghost use Rattle.command_server.specs.Words.{no_options, request_of, format_of, serve_of, with_options, with_option, number_in, layout_in, is_layout, is_decimal, has_first_digit, is_plain};
 ghost use Rattle.std.specs.List.{list_all};
 ghost use Rattle.std.specs.Char.{is_ascii_digit};
 ghost use Rattle.vol_numbers.specs.Geometry.{layout_of};
@@ -21,6 +21,8 @@ pub(crate) struct FormatOptions {
 pub(crate) enum Request<'a> {
     /// To make a volume in an image.
     Format { image: &'a str, geometry: Geometry },
+    /// To serve a session over the volume in an image.
+    Serve { image: &'a str },
 }
 
 /// What the words ask for, if they are in the table of actions.
@@ -37,10 +39,24 @@ fn read_action<'a>(action: &str, image: &'a str, options: &[&str]) -> Option<Req
     ensures { let request = request_of (action.now ∷ image.now ∷ texts options.now) in
         MatchOption result (request ≡ None) (λ read. request ≡ Some (asked read)) }
 {
-    if action == "format" && is_plain(image) {
-        read_format(image, options)
-    } else {
-        None
+    if !is_plain(image) {
+        return None;
+    }
+    match action {
+        "format" => read_format(image, options),
+        "serve" => read_serve(image, options),
+        _ => None,
+    }
+}
+
+/// A session takes no options.
+fn read_serve<'a>(image: &'a str, options: &[&str]) -> Option<Request<'a>>
+    ensures { let request = serve_of image.now (texts options.now) in
+        MatchOption result (request ≡ None) (λ read. request ≡ Some (asked read)) }
+{
+    match options {
+        [] => Some(Request::Serve { image }),
+        _ => None,
     }
 }
 

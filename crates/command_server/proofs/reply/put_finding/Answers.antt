@@ -1,0 +1,8 @@
+use Rattle.std.proofs.Common.{sym, subst}
+use Rattle.command_server.specs.Putting.{PutsText}
+use Rattle.command_server.specs.Texts.{finding_text}
+use Rattle.command_server.specs.declared.finding.Finding.{Finding}
+use Rattle.command_server.proofs.reply.put_finding.Goals as goal
+
+pub returns-in-BadLog : goal.returns-in-BadLog
+returns-in-BadLog g c = subst (λ (f : Finding). PutsText (g.W.Sink.seen c.args.sink.now) (g.W.Sink.seen c.put_bad_log.new.sink) (finding_text f) c.put_bad_log.result) (sym c.in-BadLog.is) c.put_bad_log.ensures
