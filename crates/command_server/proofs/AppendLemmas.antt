@@ -1,22 +1,22 @@
 -- What the images stand for while a record is written and a root that counts it is switched to.
-use Rattle.std.proofs.Common.{◌≡◌, ◌≢◌, ◌∙◌, ◌⊎◌, ⊎_elim, ◌+◌, ◌-◌, ◌%◌, ◌<◌, ◌≤◌, ℕ, false, List, [], ◌∷◌, length, Option, Some, refl, sym, ap, subst, arith}
+use Rattle.std.proofs.Common.{◌≡◌, ◌≢◌, ◌∙◌, ⊎_elim, ◌+◌, ◌-◌, ◌%◌, ◌<◌, ◌≤◌, ℕ, false, List, [], ◌∷◌, length, Option, sym, ap, subst, arith}
 use Rattle.std.specs.Prelude.{slice_get, slice_set, slice_index, option_map, unwrap_or}
 use Rattle.std.proofs.lemmas.List.{length-set}
 use Rattle.vol_numbers.specs.Block.{zero_block}
-use Rattle.vol_numbers.specs.Layout.{Layout, IsValid, log_start, area_start, count_blocks}
+use Rattle.vol_numbers.specs.Layout.{Layout, IsValid, log_start}
 use Rattle.vol_numbers.specs.declared.block.Block.{Block}
-use Rattle.disk_model.specs.Disk.{State, written, included, is_among, IsImage, EachImage}
+use Rattle.disk_model.specs.Disk.{State, written, included, is_among, EachImage}
 use Rattle.disk_model.proofs.Moments.{kept_in_image, is_among-included, slice_get-set_other, slice_get-set_same}
 use Rattle.root_switch.specs.declared.root.RootBody.{RootBody}
-use Rattle.root_switch.specs.Root.{Root, root_of, root_in, root_bytes, HasShape, HasGeometry}
-use Rattle.root_switch.specs.Current.{current_slot, current_root, root_bytes_in, root_of_image, HasRoot, FitsImage}
-use Rattle.root_switch.specs.Switch.{IsCurrent, HasOldRoot, HasNewRoot, OldOrNew, IsSwitched, spelled_root}
+use Rattle.root_switch.specs.Root.{Root, root_of, root_in, root_bytes, HasGeometry}
+use Rattle.root_switch.specs.Current.{root_of_image}
+use Rattle.root_switch.specs.Switch.{IsCurrent, HasOldRoot, HasNewRoot, OldOrNew, IsSwitched}
 use Rattle.root_switch.proofs.SwitchLemmas.{same_root}
 use Rattle.command_server.specs.Record.{IsRecord}
 use Rattle.command_server.specs.Tree.{has_name, and_name}
-use Rattle.command_server.specs.Image.{Stands, IsLive, KeepsLive, layout_in, records_in, used_in}
+use Rattle.command_server.specs.Image.{Stands, IsLive, layout_in, used_in}
 use Rattle.command_server.specs.Image.IsLive.{counts, inodes, index, logged}
-use Rattle.command_server.specs.Laws.{KeptMeaning, NextStands, HasNext}
+use Rattle.command_server.specs.Laws.{KeptMeaning, NextStands}
 use Rattle.command_server.specs.Fits.{Fits, StandsForSome}
 
 -- a live block is behind the root slots, and isn't the block behind the log in use

@@ -1,5 +1,5 @@
 -- The numbers of a block, one by one.
-use Rattle.std.proofs.Common.{◌≡◌, ◌∙◌, ◌+◌, ◌<◌, ℕ, zero, suc, List, [], ◌∷◌, length, get_or, refl, ap, arith}
+use Rattle.std.proofs.Common.{◌≡◌, ◌∙◌, ◌+◌, ◌<◌, ℕ, suc, List, [], ◌∷◌, length, get_or, refl, ap, arith}
 use Rattle.vol_numbers.specs.Layout.{Layout}
 use Rattle.command_server.specs.Blocks.{fresh_count, fresh_counts}
 

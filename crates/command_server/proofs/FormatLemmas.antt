@@ -1,19 +1,18 @@
 -- The state and the moments of a disk while it is formatted.
-use Rattle.std.proofs.Common.{◌≡◌, ◌≢◌, ◌∙◌, ◌⊎◌, ⊎_elim, ◌+◌, ◌*◌, ◌/◌, ◌%◌, ◌^◌, ◌<◌, ◌≤◌, ℕ, zero, suc, List, length, Option, Some, refl, sym, ap, subst, arith, add-one, get_or}
+use Rattle.std.proofs.Common.{◌≡◌, ◌∙◌, ◌⊎◌, ⊎_elim, ◌+◌, ◌*◌, ◌/◌, ◌%◌, ◌^◌, ◌<◌, ◌≤◌, ℕ, zero, suc, List, length, Option, Some, refl, sym, ap, arith, add-one}
 use Rattle.std.specs.Prelude.{slice_get, slice_set, slice_index, option_map, unwrap_or, replicate}
 use Rattle.std.proofs.Math.Nat.{zero-div}
 use Rattle.std.proofs.lemmas.List.{length-set, get_or-replicate}
 use Rattle.vol_numbers.specs.Block.{zero_block}
-use Rattle.vol_numbers.specs.Layout.{Layout, IsValid, count_blocks, log_start, area_start}
+use Rattle.vol_numbers.specs.Layout.{Layout, IsValid, count_blocks, area_start}
 use Rattle.vol_numbers.specs.declared.block.Block.{Block}
 use Rattle.disk_model.specs.Disk.{State, written, synced, DuringWrite, DuringWriteThrough}
 use Rattle.disk_model.specs.Past.{Past, Adds}
 use Rattle.disk_model.proofs.Moments.{adds_then, slice_get-set_other, slice_get-set_same}
 use Rattle.root_switch.specs.Root.{HasGeometry}
 use Rattle.root_switch.specs.Homes.{home_bit}
-use Rattle.root_switch.specs.Current.{current_slot}
 use Rattle.command_server.specs.Blocks.{count_block, index_block, inode_block}
-use Rattle.command_server.specs.Fresh.{IsFresh, fresh_root, root_block}
+use Rattle.command_server.specs.Fresh.{fresh_root, root_block}
 use Rattle.command_server.specs.Formatting.{with_counts, with_inodes, with_root, with_selector, IsFormatted}
 
 -- so many blocks

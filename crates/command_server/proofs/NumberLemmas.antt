@@ -1,13 +1,12 @@
 -- What std's `parse` makes of a decimal word.
-use Rattle.std.proofs.Common.{◌≡◌, ◌∙◌, ◌<◌, ◌^◌, ℕ, List, length, true, false, Some, None, Ok, Err, Result, refl, sym, ap, rules, arith}
-use Rattle.std.specs.Prelude.{◌&&◌, ◌||◌, ◌==◌, not, nat_lt, slice_index, if◌then◌else◌, Option, Bool}
+use Rattle.std.proofs.Common.{◌≡◌, ◌∙◌, ◌<◌, ◌^◌, ℕ, List, length, true, Some, None, Ok, Err, Result, sym, ap, rules, arith}
 use Rattle.std.specs.List.{list_all}
 use Rattle.std.specs.Char.{is_ascii_digit}
 use Rattle.std.specs.Result.{OkIff, result_ok}
 use Rattle.std.specs.Str.Parse.{digits_value, ParsesUnsigned}
 use Rattle.std.proofs.lemmas.Bool.Decides.{nat_tests}
 use Rattle.std.proofs.lemmas.Str.Parse.{IsDigitsTest, IsNumeralModel, numerals_by_value, parse_digits}
-use Rattle.command_server.specs.Words.{number_in, is_decimal, has_first_digit}
+use Rattle.command_server.specs.Words.{number_in, is_decimal}
 
 are_digits : IsDigitsTest (λ ds. list_all is_ascii_digit ds ≡ true)
 are_digits = search rules

@@ -1,7 +1,6 @@
 -- What opening and mounting an image makes of the media, and of the session that follows.
-use Rattle.std.proofs.Common.{◌≡◌, ◌⊎◌, ◌≤◌, inl, inr, ⊎_elim, ℕ, Bool, true, false, List, [], Option, Some, None, IsTrue, refl, sym, ◌∙◌, ap, subst, arith}
+use Rattle.std.proofs.Common.{◌≡◌, ◌⊎◌, ◌≤◌, inl, inr, ⊎_elim, ℕ, Bool, true, false, List, [], Option, Some, None, IsTrue, refl, sym, ◌∙◌, ap, subst}
 use Rattle.std.specs.Prelude.{if◌then◌else◌, IfSome, IsSomeAnd}
-use Rattle.vol_numbers.specs.Cause.{Rose}
 use Rattle.vol_numbers.specs.declared.block.Block.{Block}
 use Rattle.disk_model.specs.Disk.{State, IsImage, DuringSync, synced}
 use Rattle.disk_model.specs.Media.{Fixed, image_named}
@@ -10,11 +9,10 @@ use Rattle.disk_model.proofs.Moments.{adds_then, adds_weaker, image_unsynced}
 use Rattle.root_switch.specs.Current.{root_of_image}
 use Rattle.root_switch.specs.Root.{Root}
 use Rattle.command_server.specs.Ends.{Output}
-use Rattle.command_server.specs.Finding.{Finds}
 use Rattle.command_server.specs.Fits.{Fits}
 use Rattle.command_server.specs.Image.{Stands}
 use Rattle.command_server.specs.Lines.{Text}
-use Rattle.command_server.specs.Serves.{Ends, ends_of, image_at, HasNoMore, KeepsImages, Unchanged, IsFound, IsUnmounted, Unmounted, Untaken, UntakenHere, Answered, Served, TellsFinding}
+use Rattle.command_server.specs.Serves.{Ends, ends_of, image_at, HasNoMore, Unchanged, IsFound, IsUnmounted, Untaken, UntakenHere, Answered, Served, TellsFinding}
 use Rattle.command_server.specs.Session.{Session, point}
 use Rattle.command_server.specs.Session.Last.{Nothing}
 use Rattle.command_server.specs.declared.finding.Finding.{Finding}

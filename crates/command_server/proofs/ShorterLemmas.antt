@@ -1,9 +1,9 @@
 -- What comes behind a line is shorter.
-use Rattle.std.proofs.Common.{◌≡◌, ◌+◌, ◌<◌, ℕ, Bool, true, false, List, [], ◌∷◌, length, take, drop, Option, Some, None, refl, sym, ap, subst, arith, length-drop}
+use Rattle.std.proofs.Common.{◌≡◌, ◌+◌, ◌<◌, ℕ, Bool, true, false, List, [], ◌∷◌, length, take, drop, Option, Some, None, sym, ap, arith, length-drop}
 use Rattle.std.specs.Prelude.{nat_le, position, if◌then◌else◌, ◌==◌}
 use Rattle.command_server.specs.declared.command.Command.{Command}
-use Rattle.command_server.specs.Lines.{Text, First, first_in, first_line, command_of, is_end}
-use Rattle.command_server.specs.Lines.First.{Item, Ended, Bad}
+use Rattle.command_server.specs.Lines.{Text, first_in, first_line, command_of, is_end}
+use Rattle.command_server.specs.Lines.First.{Item, Bad}
 
 behind_item : (bytes : List ℕ) (i : ℕ) (b : Bool) (command : Command) (text : Text) → 0 < length bytes
     → (if b then Item (command_of (take i bytes)) (record { bytes = drop (i + 1) bytes; is_over = is_end (command_of (take i bytes)) }) else Bad) ≡ Item command text → length text.bytes < length bytes

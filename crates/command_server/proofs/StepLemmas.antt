@@ -1,5 +1,5 @@
 -- What one command makes of a session.
-use Rattle.std.proofs.Common.{◌≡◌, ◌≢◌, ℕ, ◌≤◌, Bool, false, List, [], ◌∷◌, ◌++◌, length, take, Option, Some, None, Ok, Err, IsTrue, refl, sym, ◌∙◌, ap, subst, inl, arith, append_assoc}
+use Rattle.std.proofs.Common.{◌≡◌, ◌≢◌, ℕ, ◌≤◌, Bool, false, List, [], ◌∷◌, ◌++◌, length, take, Option, Some, Err, IsTrue, refl, sym, ◌∙◌, ap, subst, inl, arith, append_assoc}
 use Rattle.std.proofs.lemmas.List.{append-nil, take_all}
 use Rattle.vol_numbers.specs.Cause.{Rose}
 use Rattle.disk_model.specs.Disk.{State, EachImage, is_among}
@@ -9,10 +9,9 @@ use Rattle.root_switch.specs.Root.{Root}
 use Rattle.command_server.specs.Ends.{Output, Puts}
 use Rattle.command_server.specs.Fits.{Fits, StandsForSome}
 use Rattle.command_server.specs.Image.{Stands}
-use Rattle.command_server.specs.Laws.{OpensNoLive}
 use Rattle.command_server.specs.Lines.{Text, first, is_end, text_of}
 use Rattle.command_server.specs.Lines.First.{Item, Ended}
-use Rattle.command_server.specs.Session.{StandsForPrefix, MayBeLeft, EndsBy, Session, point, Last}
+use Rattle.command_server.specs.Session.{StandsForPrefix, MayBeLeft, EndsBy, Session, point}
 use Rattle.command_server.specs.Session.Last.{Nothing, Cut, Stop}
 use Rattle.command_server.specs.Step.{Legal, accepted, added, after}
 use Rattle.command_server.specs.Tree.{and_name}

@@ -1,8 +1,7 @@
 -- What is taken in two steps.
-use Rattle.std.proofs.Common.{◌≡◌, ◌∙◌, ◌≤◌, ◌++◌, ℕ, List, [], sym, ap, append_assoc, arith, refl}
-use Rattle.std.specs.Prelude.{IsTrue}
+use Rattle.std.proofs.Common.{◌∙◌, ◌++◌, ℕ, List, [], sym, ap, append_assoc, arith, refl}
 use Rattle.command_server.specs.Ends.{Input, Takes}
-use Rattle.command_server.specs.Taking.{TakesPiece, TakesCount}
+use Rattle.command_server.specs.Taking.{TakesPiece}
 
 pub takes_none : (s : Input) → Takes s s []
 takes_none s = record { told = λ told. told; next = λ told. refl; never_falls = omega arith }

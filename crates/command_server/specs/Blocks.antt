@@ -2,7 +2,6 @@
 use Rattle.std.specs.Prelude.{ℕ, zero, suc, ◌+◌, ◌*◌, ◌==◌, ◌||◌, if◌then◌else◌, List, [], ◌∷◌, ◌++◌, replicate}
 use Rattle.std.specs.List.{flat_map}
 use Rattle.byteorder.specs.Endian.{little_bytes}
-use Rattle.vol_numbers.specs.Block.{zero_block}
 use Rattle.vol_numbers.specs.Layout.{Layout, area_start}
 use Rattle.vol_numbers.specs.declared.block.Block.{Block}
 

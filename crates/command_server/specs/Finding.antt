@@ -1,5 +1,5 @@
 -- Why an image stands for nothing: the first phase that finds something, in this order.
-use Rattle.std.specs.Prelude.{◌≡◌, ◌⊎◌, ◌<◌, ℕ, false, List, [], length, take, slice_get, IfSome}
+use Rattle.std.specs.Prelude.{◌≡◌, ◌⊎◌, ◌<◌, ℕ, false, List, [], take, slice_get, IfSome}
 use Rattle.vol_numbers.specs.declared.block.Block.{Block}
 use Rattle.root_switch.specs.Current.{HasRoot, FitsImage}
 use Rattle.command_server.specs.Record.{IsRecord}

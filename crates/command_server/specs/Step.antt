@@ -1,5 +1,5 @@
 -- What the plain tree answers to a command, and what the command adds.
-use Rattle.std.specs.Prelude.{◌≡◌, ◌⊎◌, ◌++◌, if◌then◌else◌, nat_le, ℕ, Bool, true, false, List, [], ◌∷◌, length, Result, Ok, Err, IsTrue}
+use Rattle.std.specs.Prelude.{◌≡◌, ◌⊎◌, if◌then◌else◌, nat_le, ℕ, Bool, true, false, List, [], ◌∷◌, length, Result, Ok, Err, IsTrue}
 use Rattle.command_server.specs.Tree.{has_name, and_name}
 use Rattle.command_server.specs.declared.command.Command.{Command}
 use Rattle.command_server.specs.declared.command.Command.TheVariants.{Create, Unknown, End}

@@ -1,4 +1,4 @@
-use Rattle.std.proofs.Common.{◌≡◌, ◌∙◌, ℕ, length, ap, arith}
+use Rattle.std.proofs.Common.{◌∙◌, ℕ, ap, arith}
 use Rattle.vol_numbers.specs.Geometry.{layout_of}
 use Rattle.command_server.specs.Blocks.{fresh_counts}
 use Rattle.command_server.proofs.BlockLemmas.{fresh_counts-each}
