@@ -41,5 +41,5 @@ fn run_words(rt: &HostRuntime) -> Status {
     let mut media = FileMedia::new(*rt);
     let mut source = StdSource::new(rt.stdin());
     let mut sink = StdSink::new(rt.stdout());
-    run(&words, &mut media, &mut source, &mut sink)
+    run(rt.alloc(), &words, &mut media, &mut source, &mut sink)
 }

@@ -32,7 +32,7 @@ fn run_into(
     mut sink: MemSink,
 ) -> Result<Ended, AllocError> {
     let mut source = MemSource::new(ByteList::new(alloc), 1, CallList::new(alloc));
-    let status = run(words, media, &mut source, &mut sink);
+    let status = run(alloc, words, media, &mut source, &mut sink);
     let text = sink.bytes().to_vec(alloc)?;
     Ok(Ended { status, text })
 }
@@ -112,12 +112,16 @@ fn writes_the_root_as_the_format_says(rt: HostRuntime) -> Result<(), Fail> {
 #[test]
 fn refuses_words_outside_the_table(rt: HostRuntime) -> Result<(), Fail> {
     let alloc = rt.alloc();
-    let rows: [&[&str]; 18] = [
+    let rows: [&[&str]; 22] = [
         &[],
         &["format"],
         &["format", ""],
         &["format", "-v"],
-        &["serve", "v"],
+        &["serve"],
+        &["serve", ""],
+        &["serve", "-v"],
+        &["serve", "v", "--log", "64"],
+        &["Serve", "v"],
         &["Format", "v"],
         &["format", "v", "w"],
         &["format", "v", "--blocks"],
