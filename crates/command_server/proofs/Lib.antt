@@ -11,6 +11,7 @@ pub mod PutLemmas
 pub mod RecordLemmas
 pub mod SessionLemmas
 pub mod ShorterLemmas
+pub mod StayLemmas
 pub mod StepLemmas
 pub mod TakeLemmas
 pub mod WordLemmas

@@ -75,7 +75,7 @@ later start a b least image some = record {
   stands = subst (λ (l : List (List ℕ)). Stands image l) (sym (after_then a (take some.count b) start) ∙ ap (λ (l : List (List ℕ)). after l start) (sym (take-append-add a b some.count))) some.stands;
 }
 
-lower : {start a : List (List ℕ)} {least more : ℕ} {image : List Block} → StandsForPrefix start more a image → least ≤ more → StandsForPrefix start least a image
+pub lower : {start a : List (List ℕ)} {least more : ℕ} {image : List Block} → StandsForPrefix start more a image → least ≤ more → StandsForPrefix start least a image
 lower some le = record { count = some.count; at_least = omega (arith, some.at_least); at_most = some.at_most; stands = some.stands }
 
 leaves_later : (last : Last) (start a acknowledged b : List (List ℕ)) (s : State) → Leaves last (after a start) (length acknowledged) b s → Leaves last start (length (a ++ acknowledged)) (a ++ b) s

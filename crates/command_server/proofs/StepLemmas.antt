@@ -29,7 +29,7 @@ fits_image {names = names} {s = s} fits image is = kept_stands s.contents image 
     closed : (k : ℕ) → is_among s.unsynced k ≡ false
     closed k = ap (λ (u : List ℕ). is_among u k) fits.all_synced
 
-after_is : (more names : List (List ℕ)) → after more names ≡ names ++ more
+pub after_is : (more names : List (List ℕ)) → after more names ≡ names ++ more
 after_is [] names = sym (append-nil names)
 after_is (x ∷ xs) names = after_is xs (and_name names x) ∙ append_assoc names (x ∷ []) xs
 

@@ -18,6 +18,7 @@ pub mod Serves
 pub mod Serving
 pub mod Session
 pub mod Status
+pub mod Staying
 pub mod Step
 pub mod Taking
 pub mod Text

@@ -24,8 +24,12 @@ mod volume;
 mod words;
 
 pub use formatting::format;
+pub use meaning::{
+    acknowledged_stay, fresh_stands, images_stand, kept_meaning, next_stands, one_meaning, one_spelling,
+};
 pub use mem_sink::MemSink;
 pub use mem_source::MemSource;
+pub use reply::texts_tell_answers;
 pub use running::run;
 pub use sink::{Sink, SinkFault};
 pub use source::{Source, SourceFault};

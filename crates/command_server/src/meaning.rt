@@ -1,4 +1,5 @@
 //! Laws of what an image stands for. Whatever carries images from one state to the next rests on these alone.
+ghost use Rattle.command_server.specs.Staying.{AcknowledgedStay};
 ghost use Rattle.command_server.specs.Laws.{OneMeaning, KeptMeaning, ImagesStand, NextStands, OneSpelling, FreshStands};
 
 /// An image stands for one list of files at most.
@@ -29,4 +30,9 @@ pub fn one_spelling()
 /// A volume as a format leaves it stands for no files.
 pub fn fresh_stands()
     ensures { FreshStands }
+{}
+
+/// However a session ended, and whatever a power cut left of its disk: a later session finds each file that was acknowledged.
+pub fn acknowledged_stay()
+    ensures { AcknowledgedStay }
 {}
