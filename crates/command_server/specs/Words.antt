@@ -1,10 +1,10 @@
 -- What the words of a call ask for.
-use Rattle.std.specs.Prelude.{ℕ, ◌-◌, ◌^◌, ◌==◌, ◌&&◌, ◌||◌, not, nat_lt, nat_le, if◌then◌else◌, Bool, false, List, [], ◌∷◌, length, codes, bytes_eq, slice_index, Option, Some, None, is_none, unwrap_or, option_and_then}
+use Rattle.std.specs.Prelude.{ℕ, ◌^◌, ◌==◌, ◌&&◌, ◌||◌, not, nat_lt, nat_le, if◌then◌else◌, Bool, List, [], ◌∷◌, length, codes, bytes_eq, slice_index, Option, Some, None, is_none, unwrap_or, option_and_then}
 use Rattle.std.specs.Option.{option_map}
 use Rattle.std.specs.List.{list_all}
 use Rattle.std.specs.Char.{is_ascii_digit}
 use Rattle.std.specs.Str.Parse.{digits_value}
-use Rattle.vol_numbers.specs.Layout.{Layout, area_start, area_size}
+use Rattle.vol_numbers.specs.Layout.{Layout, area_size}
 use Rattle.command_server.specs.declared.words.FormatOptions.{FormatOptions}
 
 -- to make a volume of this layout in the image of this name
