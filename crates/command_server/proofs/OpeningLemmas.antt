@@ -84,6 +84,7 @@ module _ {tells : Bool} {name : List ℕ} {old new : Ends} {fixed : Fixed} {imag
     sink = u.sink;
     unchanged = unchanged_mounted found (λ is other. ap (λ (f : Fixed). image_named f image other) same ∙ all is other) opens (λ is. inr (u.state ∙ is_synced is))
         (λ is. adds_then (syncs is) u.moments (λ s none. absurd none));
+    at_most = u.at_most;
     cause = u.cause;
   }
 

@@ -1,10 +1,7 @@
 -- What is taken in two steps.
-use Rattle.std.proofs.Common.{◌∙◌, ◌++◌, ℕ, List, [], sym, ap, append_assoc, arith, refl}
+use Rattle.std.proofs.Common.{◌∙◌, ◌≤◌, ◌-◌, ◌++◌, ℕ, List, length, sym, ap, append_assoc, length-append, arith}
 use Rattle.command_server.specs.Ends.{Input, Takes}
-use Rattle.command_server.specs.Taking.{TakesPiece}
-
-pub takes_none : (s : Input) → Takes s s []
-takes_none s = record { told = λ told. told; next = λ told. refl; never_falls = omega arith }
+use Rattle.command_server.specs.Taking.{TakesAtMost}
 
 -- Two pieces in a row are one.
 pub takes_both : {old mid new : Input} {first second : List ℕ} → Takes old mid first → Takes mid new second → Takes old new (first ++ second)
@@ -14,6 +11,11 @@ takes_both {old} {mid} {new} {first} {second} one two = record {
   never_falls = omega arith;
 }
 
--- a piece behind what was taken
-pub takes_more : {old mid new : Input} {before after : List ℕ} {count : ℕ} → Takes old mid before → TakesPiece mid new before after count → Takes old new after
-takes_more {old} {mid} {new} {before} {after} taken more = rw more.behind (takes_both taken more.takes)
+-- at most so many with those that were taken before
+pub takes_at_most : {old mid new : Input} (before : List ℕ) (most : ℕ) → Takes old mid before → length before ≤ most
+    → TakesAtMost mid new (most - length before) → TakesAtMost old new most
+takes_at_most before most taken within more = record {
+  bytes = before ++ more.bytes;
+  takes = takes_both taken more.takes;
+  within = omega (arith, length-append before more.bytes);
+}

@@ -10,7 +10,7 @@ use Rattle.command_server.specs.Finding.{Finds}
 use Rattle.command_server.specs.Image.{Stands, layout_in}
 use Rattle.command_server.specs.Serving.{text_in, no_text}
 use Rattle.command_server.specs.Session.{Session, point}
-use Rattle.command_server.specs.Taking.{TakesCount}
+use Rattle.command_server.specs.Taking.{TakesCount, TakesAtMost}
 use Rattle.command_server.specs.Texts.{finding_text}
 use Rattle.command_server.specs.declared.finding.Finding.{Finding}
 use Rattle.command_server.specs.declared.status.Status.{Status}
@@ -78,10 +78,11 @@ IsUntaken Device old new = ⊥
 IsUntaken SinkFailed old new = ⊥
 IsUntaken BadStream old new = ⊥
 
--- A volume was mounted, but the input wasn't taken: no command was read.
+-- A volume was mounted, but the input wasn't taken whole: no command was read.
 pub record Untaken (tells : Bool) (name : List ℕ) (old new : Ends) (status : Status) : Type 0 where
   pub sink : new.sink ≡ old.sink
   pub unchanged : Unchanged tells name old new
+  pub at_most : TakesAtMost old.source new.source 65536
   pub cause : IsUntaken status old.source new.source
 
 -- The input was taken whole, and a session over this image followed, which stood for these files.
@@ -116,6 +117,7 @@ pub record UntakenHere (old new : Ends) (status : Status) : Type 0 where
   pub state : new.state ≡ old.state
   pub moments : Adds old.past new.past (λ s. ⊥)
   pub faults : new.faults ≡ old.faults
+  pub at_most : TakesAtMost old.source new.source 65536
   pub cause : IsUntaken status old.source new.source
 
 -- what is put of a finding, by the status

@@ -1,5 +1,5 @@
 -- What is taken of a source, piece by piece.
-use Rattle.std.specs.Prelude.{◌≡◌, ◌++◌, ℕ, List, length}
+use Rattle.std.specs.Prelude.{◌≡◌, ◌≤◌, ◌++◌, ℕ, List, length}
 use Rattle.command_server.specs.Ends.{Input, Takes}
 
 -- A piece of so many bytes was taken. It stands behind the bytes before it.
@@ -14,3 +14,9 @@ pub record TakesCount (old new : Input) (count : ℕ) : Type 0 where
   pub bytes : List ℕ
   pub takes : Takes old new bytes
   pub counted : length bytes ≡ count
+
+-- at most so many bytes were taken
+pub record TakesAtMost (old new : Input) (count : ℕ) : Type 0 where
+  pub bytes : List ℕ
+  pub takes : Takes old new bytes
+  pub within : length bytes ≤ count

@@ -1,8 +1,8 @@
 //! The input of a session, which is taken whole before its first line is answered.
-ghost use Rattle.std.specs.Prelude.{◌≡◌, ◌<◌, ◌≤◌, [], length, IfOk, IsErrOf, IsTrue};
+ghost use Rattle.std.specs.Prelude.{◌≡◌, ◌<◌, ◌≤◌, ◌-◌, [], length, IfOk, IsErrOf, IsTrue};
 ghost use Rattle.vol_numbers.specs.Cause.{Rose};
-ghost use Rattle.command_server.specs.Ends.{Input, Takes};
-ghost use Rattle.command_server.specs.Taking.{TakesPiece, TakesCount};
+ghost use Rattle.command_server.specs.Ends.{Takes};
+ghost use Rattle.command_server.specs.Taking.{TakesPiece, TakesCount, TakesAtMost};
 
 use crate::{Source, SourceFault};
 use std::alloc::{AllocError, Global};
@@ -25,6 +25,7 @@ pub(crate) fn read_input<R: Source>(alloc: Global, source: &mut R) -> Result<Vec
     ensures fewer { IfOk result (λ bytes. length bytes.items < 65_536) }
     ensures budget { IsErrOf result InputFault.Budget → TakesCount (R.seen source.old) (R.seen source.new) 65_536 }
     ensures source { IsErrOf result InputFault.Source → Rose (R.seen source.old).faults (R.seen source.new).faults }
+    ensures at_most { TakesAtMost (R.seen source.old) (R.seen source.new) 65_536 }
     ensures told { IsTrue (R.seen source.old).is_told → IsTrue (R.seen source.new).is_told }
     ensures faults { (R.seen source.old).faults ≤ (R.seen source.new).faults }
 {
@@ -45,6 +46,7 @@ fn take_piece<R: Source>(source: &mut R, bytes: &mut Vec<u8>) -> Result<usize, I
     ensures within { IfOk result (λ count. length bytes.new.items ≤ 65_536) }
     ensures no_budget { IsErrOf result InputFault.Budget → ⊥ }
     ensures source { IsErrOf result InputFault.Source → Rose (R.seen source.old).faults (R.seen source.new).faults }
+    ensures at_most { TakesAtMost (R.seen source.old) (R.seen source.new) (65_536 - length bytes.old.items) }
     ensures told { IsTrue (R.seen source.old).is_told → IsTrue (R.seen source.new).is_told }
     ensures faults { (R.seen source.old).faults ≤ (R.seen source.new).faults }
 {
