@@ -1,11 +1,9 @@
 -- What was acknowledged stays.
-use Rattle.std.proofs.Common.{◌≡◌, ◌⊎◌, ◌≤◌, inl, inr, ⊎_elim, ℕ, zero, suc, Bool, true, false, List, [], ◌∷◌, ◌++◌, length, take, map, Option, Ok, IsTrue, refl, sym, ◌∙◌, ap, subst, arith, append_assoc, length-append}
+use Rattle.std.proofs.Common.{◌≡◌, ◌⊎◌, ◌≤◌, inl, inr, ⊎_elim, ℕ, zero, suc, Bool, true, false, List, [], ◌∷◌, ◌++◌, length, take, map, Ok, IsTrue, refl, sym, ◌∙◌, ap, subst, arith, append_assoc, length-append}
 use Rattle.std.specs.Prelude.{◌||◌, bytes_eq}
 use Rattle.std.proofs.lemmas.Bool.{false≢true}
-use Rattle.std.proofs.lemmas.List.{append-nil}
 use Rattle.vol_numbers.specs.declared.block.Block.{Block}
 use Rattle.disk_model.specs.Disk.{State, IsImage}
-use Rattle.command_server.specs.Image.{Stands}
 use Rattle.command_server.specs.Session.{Outcome, Run, all_added, Last, last_outcome, StandsForPrefix, Leaves}
 use Rattle.command_server.specs.Session.Last.{Nothing, Cut, Stop}
 use Rattle.command_server.specs.Staying.{SaysThere, AcknowledgedStay}
