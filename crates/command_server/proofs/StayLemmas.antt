@@ -62,9 +62,9 @@ run_says : (room : ℕ) (names : List (List ℕ)) (name : List ℕ) (commands : 
 run_says room names name [] answers more is run = tt
 run_says room names name (c ∷ commands) [] more is run = tt
 run_says room names name (c ∷ commands) (a ∷ answers) more is run = (
-      legal_there room names name c a is run.0,
-      run_says room (after (added room names c (Ok a)) names) name commands answers more (has_name-after (added room names c (Ok a)) names name is) run.1,
-    )
+  legal_there room names name c a is run.0,
+  run_says room (after (added room names c (Ok a)) names) name commands answers more (has_name-after (added room names c (Ok a)) names name is) run.1,
+)
 
 -- what some outcomes made comes first of what more of them made
 front : (room : ℕ) (names : List (List ℕ)) (commands : List Command) (outcomes more : List Outcome)

@@ -53,15 +53,14 @@ fn serve_input<D: Disk, R: Source, W: Sink>(
 ) -> Status
     requires size { (root_of volume.current.body).layout.blocks ≡ (D.fixed disk.old).size }
     requires fits { IsTrue D.tells → Fits volume.current.slot (root_of volume.current.body) volume.names.items (D.state disk.old) }
-    ensures answered {
-        UntakenHere
-            (ends_of (R.seen source.old) (W.seen sink.old) (D.fixed disk.old) (D.state disk.old) (D.past disk.old) (D.faults disk.old))
-            (ends_of (R.seen source.new) (W.seen sink.new) (D.fixed disk.new) (D.state disk.new) (D.past disk.new) (D.faults disk.new))
-            result
+    ensures answered { UntakenHere
+        (ends_of (R.seen source.old) (W.seen sink.old) (D.fixed disk.old) (D.state disk.old) (D.past disk.old) (D.faults disk.old))
+        (ends_of (R.seen source.new) (W.seen sink.new) (D.fixed disk.new) (D.state disk.new) (D.past disk.new) (D.faults disk.new))
+        result
         ⊎ Answered D.tells (root_of volume.current.body).layout.log_blocks volume.names.items (D.state disk.old)
-            (ends_of (R.seen source.old) (W.seen sink.old) (D.fixed disk.old) (D.state disk.old) (D.past disk.old) (D.faults disk.old))
-            (ends_of (R.seen source.new) (W.seen sink.new) (D.fixed disk.new) (D.state disk.new) (D.past disk.new) (D.faults disk.new))
-            result }
+        (ends_of (R.seen source.old) (W.seen sink.old) (D.fixed disk.old) (D.state disk.old) (D.past disk.old) (D.faults disk.old))
+        (ends_of (R.seen source.new) (W.seen sink.new) (D.fixed disk.new) (D.state disk.new) (D.past disk.new) (D.faults disk.new))
+        result }
     ensures fixed { D.fixed disk.new ≡ D.fixed disk.old }
     ensures never_falls { D.faults disk.old ≤ D.faults disk.new }
 {

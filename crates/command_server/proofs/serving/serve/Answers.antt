@@ -23,15 +23,15 @@ loop-behind-preserved g c =
       fits = c.in-GoesOn.ensures.fits refl;
       fixed = c.serve_line.ensures.fixed ∙ so_far.fixed;
       so_far = session_then so_far.so_far (subst (λ (n : ℕ). Session n g.D.Disk.tells
-        (point (text_in c.loop-behind.rest.now) (g.W.Sink.seen c.loop-behind.sink) c.loop-behind.volume.names.items (g.D.Disk.state c.loop-behind.disk) (g.D.Disk.past c.loop-behind.disk) (g.D.Disk.faults c.loop-behind.disk))
-        (point (text_in c.in-GoesOn.behind.now) (g.W.Sink.seen c.serve_line.new.sink) c.serve_line.new.volume.names.items (g.D.Disk.state c.serve_line.new.disk) (g.D.Disk.past c.serve_line.new.disk) (g.D.Disk.faults c.serve_line.new.disk))
-        None) (ap (λ (l : Layout). l.log_blocks) so_far.layout) c.in-GoesOn.ensures.session);
+          (point (text_in c.loop-behind.rest.now) (g.W.Sink.seen c.loop-behind.sink) c.loop-behind.volume.names.items (g.D.Disk.state c.loop-behind.disk) (g.D.Disk.past c.loop-behind.disk) (g.D.Disk.faults c.loop-behind.disk))
+          (point (text_in c.in-GoesOn.behind.now) (g.W.Sink.seen c.serve_line.new.sink) c.serve_line.new.volume.names.items (g.D.Disk.state c.serve_line.new.disk) (g.D.Disk.past c.serve_line.new.disk) (g.D.Disk.faults c.serve_line.new.disk))
+          None) (ap (λ (l : Layout). l.log_blocks) so_far.layout) c.in-GoesOn.ensures.session);
     }
 
 pub returns-in-Ends-clause-session : goal.returns-in-Ends-clause-session
 returns-in-Ends-clause-session g c =
     let so_far = c.loop-behind.invariant in
     session_then so_far.so_far (subst (λ (n : ℕ). Session n g.D.Disk.tells
-      (point (text_in c.loop-behind.rest.now) (g.W.Sink.seen c.loop-behind.sink) c.loop-behind.volume.names.items (g.D.Disk.state c.loop-behind.disk) (g.D.Disk.past c.loop-behind.disk) (g.D.Disk.faults c.loop-behind.disk))
-      (point no_text (g.W.Sink.seen c.serve_line.new.sink) c.serve_line.new.volume.names.items (g.D.Disk.state c.serve_line.new.disk) (g.D.Disk.past c.serve_line.new.disk) (g.D.Disk.faults c.serve_line.new.disk))
-      (Some c.in-Ends.status)) (ap (λ (l : Layout). l.log_blocks) so_far.layout) c.in-Ends.ensures.session)
+    (point (text_in c.loop-behind.rest.now) (g.W.Sink.seen c.loop-behind.sink) c.loop-behind.volume.names.items (g.D.Disk.state c.loop-behind.disk) (g.D.Disk.past c.loop-behind.disk) (g.D.Disk.faults c.loop-behind.disk))
+    (point no_text (g.W.Sink.seen c.serve_line.new.sink) c.serve_line.new.volume.names.items (g.D.Disk.state c.serve_line.new.disk) (g.D.Disk.past c.serve_line.new.disk) (g.D.Disk.faults c.serve_line.new.disk))
+    (Some c.in-Ends.status)) (ap (λ (l : Layout). l.log_blocks) so_far.layout) c.in-Ends.ensures.session)

@@ -17,7 +17,7 @@ returns-in-Err-clause-session g c =
 pub returns-in-Err-put_answer-clause-session : goal.returns-in-Err-put_answer-clause-session
 returns-in-Err-put_answer-clause-session g c =
     let applied : Applied c.args.volume.now.current.body.geometry.log_blocks g.D.Disk.tells c.in-Command.command c.args.volume.now.names.items (g.D.Disk.state c.apply.new.disk) (g.D.Disk.past c.args.disk.now) (g.D.Disk.past c.apply.new.disk)
-        (g.D.Disk.faults c.args.disk.now) (g.D.Disk.faults c.apply.new.disk) c.apply.new.self.current.slot (root_of c.apply.new.self.current.body) c.apply.new.self.names.items c.in-Ok.answer = record {
+    (g.D.Disk.faults c.args.disk.now) (g.D.Disk.faults c.apply.new.disk) c.apply.new.self.current.slot (root_of c.apply.new.self.current.body) c.apply.new.self.names.items c.in-Ok.answer = record {
       legal = c.in-Ok.ensures.answer;
       names_are = c.in-Ok.ensures.names;
       fits = c.in-Ok.ensures.fits;
@@ -30,7 +30,7 @@ returns-in-Err-put_answer-clause-session g c =
 pub returns-in-End-clause-session : goal.returns-in-End-clause-session
 returns-in-End-clause-session g c =
     let applied : Applied c.args.volume.now.current.body.geometry.log_blocks g.D.Disk.tells c.in-Command.command c.args.volume.now.names.items (g.D.Disk.state c.apply.new.disk) (g.D.Disk.past c.args.disk.now) (g.D.Disk.past c.apply.new.disk)
-        (g.D.Disk.faults c.args.disk.now) (g.D.Disk.faults c.apply.new.disk) c.apply.new.self.current.slot (root_of c.apply.new.self.current.body) c.apply.new.self.names.items c.in-Ok.answer = record {
+    (g.D.Disk.faults c.args.disk.now) (g.D.Disk.faults c.apply.new.disk) c.apply.new.self.current.slot (root_of c.apply.new.self.current.body) c.apply.new.self.names.items c.in-Ok.answer = record {
       legal = c.in-Ok.ensures.answer;
       names_are = c.in-Ok.ensures.names;
       fits = c.in-Ok.ensures.fits;
@@ -42,7 +42,7 @@ returns-in-End-clause-session g c =
 pub returns-in_default-command-clause-session : goal.returns-in_default-command-clause-session
 returns-in_default-command-clause-session g c =
     let applied : Applied c.args.volume.now.current.body.geometry.log_blocks g.D.Disk.tells c.in-Command.command c.args.volume.now.names.items (g.D.Disk.state c.apply.new.disk) (g.D.Disk.past c.args.disk.now) (g.D.Disk.past c.apply.new.disk)
-        (g.D.Disk.faults c.args.disk.now) (g.D.Disk.faults c.apply.new.disk) c.apply.new.self.current.slot (root_of c.apply.new.self.current.body) c.apply.new.self.names.items c.in-Ok.answer = record {
+    (g.D.Disk.faults c.args.disk.now) (g.D.Disk.faults c.apply.new.disk) c.apply.new.self.current.slot (root_of c.apply.new.self.current.body) c.apply.new.self.names.items c.in-Ok.answer = record {
       legal = c.in-Ok.ensures.answer;
       names_are = c.in-Ok.ensures.names;
       fits = c.in-Ok.ensures.fits;
