@@ -1,0 +1,6 @@
+pub mod Attempts
+pub mod Path
+pub mod Places
+pub mod Refusal
+pub mod Step
+pub mod Tree
