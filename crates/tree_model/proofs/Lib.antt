@@ -1,4 +1,6 @@
+pub mod AttemptLaws
 pub mod Moves
+pub mod Numbers
 pub mod Orders
 pub mod Parents
 pub mod PutRules

@@ -1,4 +1,5 @@
 pub mod Attempts
+pub mod Laws
 pub mod Path
 pub mod Places
 pub mod Refusal

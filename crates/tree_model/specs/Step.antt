@@ -154,6 +154,23 @@ is_plain (Read path offset len) = true
 is_plain (ListOf path) = true
 is_plain (Stat path) = true
 
+-- whether a command may change the tree
+abbrev pub is_change : Command → Bool
+is_change (Mkdir path) = true
+is_change (Create path) = true
+is_change (Write path offset []) = false
+is_change (Write path offset (byte ∷ bytes)) = true
+is_change (Truncate path size) = true
+is_change (Remove path) = true
+is_change (Rename from to) = true
+is_change (Read path offset len) = false
+is_change (ListOf path) = false
+is_change (Stat path) = false
+is_change (Layout path) = false
+is_change Space = false
+is_change Checkpoint = false
+is_change End = false
+
 abbrev pub replies_of : Tree → List Command → List Reply
 replies_of tree [] = []
 replies_of tree (command ∷ commands) = (step tree command).0 ∷ replies_of (step tree command).1 commands

@@ -3,6 +3,7 @@
 
 mod command;
 mod file_bytes;
+mod laws;
 mod node;
 mod node_list;
 mod path;
@@ -14,6 +15,7 @@ mod reply;
 mod report;
 
 pub use command::{Command, MOST_BYTES, Payload, ReadLength, TooLong};
+pub use laws::{gives_least, keeps_order, put_at, reading_leaves, refused_leaves, same_tree};
 pub use node::{Content, NameList, Node};
 pub use path::{BadPath, Path};
 pub use plain_tree::PlainTree;

@@ -1,0 +1,47 @@
+-- What holds of the definition of the tree, in words that its rules don't use.
+use Rattle.std.specs.Prelude.{◌≡◌, ◌≢◌, ◌≤◌, ◌<◌, ℕ, IsTrue, Bool, true, false, not, if◌then◌else◌, List, Option, Some, None}
+use Rattle.std.specs.Ordering.{eq_by_cmp}
+use Rattle.std.specs.FinMap.{is_sorted}
+use Rattle.tree_model.specs.declared.command.Command.{Command}
+use Rattle.tree_model.specs.declared.node.Node.{Node}
+use Rattle.tree_model.specs.declared.refusal.Refusal.{Refusal}
+use Rattle.tree_model.specs.declared.reply.Reply.TheVariants.{Refused}
+use Rattle.tree_model.specs.Path.{Path, path_cmp}
+use Rattle.tree_model.specs.Tree.{Tree, node_at, with_node, is_used, least_unused}
+use Rattle.tree_model.specs.Step.{step, is_change}
+
+-- in the order of the paths, each path once
+abbrev pub IsOrdered : Tree → Type 0
+IsOrdered tree = IsTrue (is_sorted path_cmp tree)
+
+-- a command leaves the tree in order
+abbrev pub KeepsOrder : Type 0
+KeepsOrder = (tree : Tree) (command : Command) → IsOrdered tree → IsOrdered (step tree command).1
+
+-- trees in order that have the same nodes are one tree
+abbrev pub SameTree : Type 0
+SameTree = (s t : Tree) → IsOrdered s → IsOrdered t → ((path : Path) → node_at s path ≡ node_at t path) → s ≡ t
+
+-- what is put at a path is there, and nothing else changes
+abbrev pub PutAt : Type 0
+PutAt = (tree : Tree) (path : Path) (node : Node) (q : Path) → node_at (with_node tree path node) q ≡ (if eq_by_cmp path_cmp q path then Some node else node_at tree q)
+
+-- a refused command leaves the tree
+abbrev pub RefusedLeaves : Type 0
+RefusedLeaves = (tree : Tree) (command : Command) (refusal : Refusal) → (step tree command).0 ≡ Refused refusal → (step tree command).1 ≡ tree
+
+-- a command that changes nothing leaves the tree
+abbrev pub ReadingLeaves : Type 0
+ReadingLeaves = (tree : Tree) (command : Command) → is_change command ≡ false → (step tree command).1 ≡ tree
+
+-- a number from 2 to 65,535 that no node has, and each lesser one from 2 on is a node's
+pub record IsLeastUnused (tree : Tree) (number : ℕ) : Type 0 where
+  pub at_least : 2 ≤ number
+  pub at_most : number ≤ 65535
+  pub unused : is_used tree number ≡ false
+  pub least : (k : ℕ) → 2 ≤ k → k < number → is_used tree k ≡ true
+
+-- the number of a new node is the least unused, and it is wanting only where all are used
+pub record GivesLeast : Type 0 where
+  pub some : (tree : Tree) (number : ℕ) → least_unused tree ≡ Some number → IsLeastUnused tree number
+  pub none : (tree : Tree) → least_unused tree ≡ None → (k : ℕ) → 2 ≤ k → k ≤ 65535 → is_used tree k ≡ true
