@@ -13,6 +13,8 @@ mod plain_tree;
 mod refusal;
 mod reply;
 mod report;
+#[cfg(test)]
+mod tests;
 
 pub use command::{Command, MOST_BYTES, Payload, ReadLength, TooLong};
 pub use laws::{gives_least, keeps_order, put_at, reading_leaves, refused_leaves, same_tree};
