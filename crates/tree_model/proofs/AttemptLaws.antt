@@ -18,7 +18,8 @@ use Rattle.tree_model.specs.declared.reply.Reply.TheVariants.{Done, Data, Entrie
 use Rattle.tree_model.specs.Path.{Path, path_cmp, strip}
 use Rattle.tree_model.specs.Tree.{Tree, with_node, without, moved_onto, moved, new_path, with_width, with_content_width, written}
 use Rattle.tree_model.specs.Step.{step, attempt, settled, ◌>>=◌, written_tree, is_change}
-use Rattle.tree_model.specs.Laws.{IsOrdered, KeepsOrder, SameTree, PutAt, RefusedLeaves, ReadingLeaves}
+use Rattle.tree_model.specs.Order.{IsOrdered}
+use Rattle.tree_model.specs.Laws.{KeepsOrder, SameTree, PutAt, RefusedLeaves, ReadingLeaves}
 use Rattle.tree_model.proofs.Puts.{same_path}
 
 pub path_total : IsTotalOrder path_cmp

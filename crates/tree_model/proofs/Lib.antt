@@ -1,8 +1,12 @@
 pub mod AttemptLaws
+pub mod Fronts
+pub mod Lookups
 pub mod Moves
 pub mod Numbers
 pub mod Orders
 pub mod Parents
 pub mod PutRules
 pub mod Puts
+pub mod Renames
+pub mod Shapes
 pub mod Walks

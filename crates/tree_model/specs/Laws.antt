@@ -1,18 +1,14 @@
 -- What holds of the definition of the tree, in words that its rules don't use.
 use Rattle.std.specs.Prelude.{◌≡◌, ◌≢◌, ◌≤◌, ◌<◌, ℕ, IsTrue, Bool, true, false, not, if◌then◌else◌, List, Option, Some, None}
 use Rattle.std.specs.Ordering.{eq_by_cmp}
-use Rattle.std.specs.FinMap.{is_sorted}
 use Rattle.tree_model.specs.declared.command.Command.{Command}
 use Rattle.tree_model.specs.declared.node.Node.{Node}
 use Rattle.tree_model.specs.declared.refusal.Refusal.{Refusal}
 use Rattle.tree_model.specs.declared.reply.Reply.TheVariants.{Refused}
+use Rattle.tree_model.specs.Order.{IsOrdered}
 use Rattle.tree_model.specs.Path.{Path, path_cmp}
 use Rattle.tree_model.specs.Tree.{Tree, node_at, with_node, is_used, least_unused}
 use Rattle.tree_model.specs.Step.{step, is_change}
-
--- in the order of the paths, each path once
-abbrev pub IsOrdered : Tree → Type 0
-IsOrdered tree = IsTrue (is_sorted path_cmp tree)
 
 -- a command leaves the tree in order
 abbrev pub KeepsOrder : Type 0

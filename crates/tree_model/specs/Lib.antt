@@ -1,7 +1,9 @@
 pub mod Attempts
 pub mod Laws
+pub mod Order
 pub mod Path
 pub mod Places
 pub mod Refusal
+pub mod Shape
 pub mod Step
 pub mod Tree

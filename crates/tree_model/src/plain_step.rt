@@ -120,14 +120,15 @@ fn truncate(
 fn remove(nodes: &mut Vec<(NameList, Node)>, path: &Path) -> Result<Reply, StepFault>
     ensures { Attempts nodes.old.items nodes.new.items result (remove nodes.old.items path.now) }
 {
-    walk(nodes, path.names())?;
-    if path.names().is_empty() {
+    let names = path.names();
+    walk(nodes, names)?;
+    if names.is_empty() {
         return Err(StepFault::Refused(Refusal::RootFixed));
     }
-    if entry_count(nodes, path.names()) != 0 {
+    if entry_count(nodes, names) != 0 {
         return Err(StepFault::Refused(Refusal::NotEmpty));
     }
-    take_away(nodes, path.names());
+    take_away(nodes, names);
     Ok(Reply::Done)
 }
 
