@@ -51,21 +51,21 @@ after_all P (Err e) f h = tt
 
 -- ---- order
 
-ordered_put : (tree : Tree) (path : Path) (node : Node) → IsOrdered tree → IsOrdered (with_node tree path node)
+pub ordered_put : (tree : Tree) (path : Path) (node : Node) → IsOrdered tree → IsOrdered (with_node tree path node)
 ordered_put tree path node h = T_true _ (is_sorted-put path_cmp path_total path node tree (true_T _ h))
 
-ordered_without : (tree : Tree) (path : Path) → IsOrdered tree → IsOrdered (without tree path)
+pub ordered_without : (tree : Tree) (path : Path) → IsOrdered tree → IsOrdered (without tree path)
 ordered_without tree path h = T_true _ (is_sorted-where_key path_cmp (λ q. not (eq_by_cmp path_cmp path q)) tree (true_T _ h))
 
-ordered_moved : (from to : Path) (tree : Tree) → IsOrdered (moved_onto from to tree [])
+pub ordered_moved : (from to : Path) (tree : Tree) → IsOrdered (moved_onto from to tree [])
 ordered_moved from to [] = refl
 ordered_moved from to (e ∷ es) = ordered_put (moved_onto from to es []) (new_path from to e.0) e.1 (ordered_moved from to es)
 
-ordered_width : (n : ℕ) (tree : Tree) (path : Path) (o : Option Node) → IsOrdered tree → IsOrdered (with_width n tree path o)
+pub ordered_width : (n : ℕ) (tree : Tree) (path : Path) (o : Option Node) → IsOrdered tree → IsOrdered (with_width n tree path o)
 ordered_width n tree path None h = h
 ordered_width n tree path (Some node) h = elim node.content as (λ c. IsOrdered (with_content_width n tree path node.number c)) [ File bytes ↦ h | Directory width ↦ ordered_put tree path (record { number = node.number; content = Directory (max width n) }) h ]
 
-ordered_written : (tree : Tree) (path : Path) (number : ℕ) (bytes : List ℕ) (offset : ℕ) (more : List ℕ) → IsOrdered tree → IsOrdered (written_tree tree path number bytes offset more)
+pub ordered_written : (tree : Tree) (path : Path) (number : ℕ) (bytes : List ℕ) (offset : ℕ) (more : List ℕ) → IsOrdered tree → IsOrdered (written_tree tree path number bytes offset more)
 ordered_written tree path number bytes offset [] h = h
 ordered_written tree path number bytes offset (b ∷ more) h = ordered_put tree path (record { number = number; content = File (written bytes offset (b ∷ more)) }) h
 

@@ -1,3 +1,4 @@
+pub mod Accepted
 pub mod AttemptLaws
 pub mod Fronts
 pub mod Lookups
@@ -9,4 +10,5 @@ pub mod PutRules
 pub mod Puts
 pub mod Renames
 pub mod Shapes
+pub mod StepShapes
 pub mod Walks
