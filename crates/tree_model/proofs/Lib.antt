@@ -1,5 +1,6 @@
 pub mod Accepted
 pub mod AttemptLaws
+pub mod ByteLaws
 pub mod Fronts
 pub mod Lookups
 pub mod Moves
@@ -10,5 +11,6 @@ pub mod PutRules
 pub mod Puts
 pub mod Renames
 pub mod Shapes
+pub mod StepFollows
 pub mod StepShapes
 pub mod Walks

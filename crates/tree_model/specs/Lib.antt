@@ -1,4 +1,5 @@
 pub mod Attempts
+pub mod Follow
 pub mod Laws
 pub mod Order
 pub mod Path
@@ -6,4 +7,5 @@ pub mod Places
 pub mod Refusal
 pub mod Shape
 pub mod Step
+pub mod Touched
 pub mod Tree
