@@ -12,7 +12,7 @@ pub data Came (from to path : Path) : Path → Type 0 where
   below : (rest : Path) → path ≡ to ++ rest → Came from to path (from ++ rest)
   stayed : strip to path ≡ None → strip from path ≡ None → Came from to path path
 
-none_left : (front q : Path) → ((r : Path) → q ≡ front ++ r → ⊥) → strip front q ≡ None
+pub none_left : (front q : Path) → ((r : Path) → q ≡ front ++ r → ⊥) → strip front q ≡ None
 none_left front q f =
     elim (strip front q) as (λ o. strip front q ≡ o → strip front q ≡ None) [ None ↦ λ e. e | Some r ↦ λ e. absurd (f r (strip_is front q r e)) ] refl
 

@@ -1,5 +1,5 @@
 //! Laws of the definition of the tree, each on a function whose contract it is.
-ghost use Rattle.tree_model.specs.Laws.{KeepsOrder, SameTree, PutAt, RefusedLeaves, ReadingLeaves, GivesLeast};
+ghost use Rattle.tree_model.specs.Laws.{KeepsOrder, SameTree, PutAt, RefusedLeaves, ReadingLeaves, GivesLeast, KeepsTree, RenamesMove, NodesFollow, TouchesOnly, WidthsNeverFall};
 
 /// A command leaves the tree in the order of its paths, each path once.
 pub fn keeps_order()
@@ -29,4 +29,30 @@ pub fn reading_leaves()
 /// A new node gets the least number that no node has, and is refused one only where all are had.
 pub fn gives_least()
     ensures { GivesLeast }
+{}
+
+/// The tree with the root alone is a tree, and a command leaves a tree a tree: the root is directory 1, a directory is
+/// in front of each path, and a number is of one path.
+pub fn keeps_tree()
+    ensures { KeepsTree }
+{}
+
+/// A rename moves exactly the paths that begin with the one.
+pub fn renames_move()
+    ensures { RenamesMove }
+{}
+
+/// Each node of the tree after a command follows a node of before with its number, or is new.
+pub fn nodes_follow()
+    ensures { NodesFollow }
+{}
+
+/// No byte of a place that a command doesn't touch changes.
+pub fn touches_only()
+    ensures { TouchesOnly }
+{}
+
+/// A width never falls.
+pub fn widths_never_fall()
+    ensures { WidthsNeverFall }
 {}

@@ -17,7 +17,10 @@ mod report;
 mod tests;
 
 pub use command::{Command, MOST_BYTES, Payload, ReadLength, TooLong};
-pub use laws::{gives_least, keeps_order, put_at, reading_leaves, refused_leaves, same_tree};
+pub use laws::{
+    gives_least, keeps_order, keeps_tree, nodes_follow, put_at, reading_leaves, refused_leaves,
+    renames_move, same_tree, touches_only, widths_never_fall,
+};
 pub use node::{Content, NameList, Node};
 pub use path::{BadPath, Path};
 pub use plain_tree::PlainTree;
