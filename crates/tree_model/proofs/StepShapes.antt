@@ -1,6 +1,6 @@
 -- Each command leaves a tree a tree.
 use Rattle.std.proofs.Common.{◌≡◌, ℕ, ◌≤◌, List, [], ◌∷◌, ◌++◌, true, false, not, refl, sym, ap, subst, ◌∙◌, Some, None, cond, inl, inr, append_assoc, append-nil, arith, length}
-use Rattle.std.specs.Prelude.{Result, Ok, Err, Option, Bool, ◌⊎◌, ◌||◌, is_some, nat_eq, max, nat_lt, ◌+◌}
+use Rattle.std.specs.Prelude.{Result, Ok, Err, Option, Bool, ◌⊎◌, ◌||◌, ◌&&◌, is_some, nat_eq, max, nat_lt, ◌+◌}
 use Rattle.std.proofs.lemmas.Bool.{eq-eqb}
 use Rattle.tree_model.specs.declared.command.Command.{Command}
 use Rattle.tree_model.specs.declared.command.Command.TheVariants.{Mkdir, Create, Write, Truncate, Remove, Rename, Read, List as ListOf, Stat, Layout, Space, Checkpoint, End}
@@ -12,7 +12,7 @@ use Rattle.tree_model.specs.declared.refusal.Refusal.TheVariants.{NotFound, NotA
 use Rattle.tree_model.specs.declared.reply.Reply.{Reply}
 use Rattle.tree_model.specs.Path.{Path, is_root, parent_of, strip}
 use Rattle.tree_model.specs.Tree.{Tree, node_at, with_node, without, is_directory, holds_entries, with_width, with_content_width, widened, moved, moved_onto, entries_of, is_used, least_unused, written}
-use Rattle.tree_model.specs.Step.{step, attempt, settled, ◌>>=◌, refuse_if, or_refuse, walk, bytes_of, make, written_tree}
+use Rattle.tree_model.specs.Step.{step, attempt, settled, ◌>>=◌, refuse_if, or_refuse, walk, bytes_of, has_entries, written_tree}
 use Rattle.tree_model.specs.Order.{IsOrdered}
 use Rattle.tree_model.specs.Shape.{shape_of, shape_at, IsShape, IsTree, came_from, after_rename}
 use Rattle.tree_model.proofs.Accepted.{with_ok, passed, held, there, walked, is_file, nothing}
@@ -121,11 +121,32 @@ leaf tree path h none name (next ∷ rest) = is_none _ (λ x e.
     let nothing : shape_at tree (path ++ name ∷ []) ≡ None = ap shape_of (no_entry tree path name none) in
     cc)
 
-remove_end : (tree : Tree) (path : Path) → IsTree tree → (u : ℕ) → refuse_if (is_root path) RootFixed ≡ Ok u → (v : ℕ) → refuse_if (not (nat_eq (length (entries_of tree path)) 0)) NotEmpty ≡ Ok v
-    → IsTree (without tree path)
-remove_end tree path h u named v empty = record {
+not_false : (b : Bool) → not b ≡ false → b ≡ true
+not_false true e = refl
+not_false false e = cc
+
+abbrev kind_in : Option (ℕ × Bool) → Bool
+kind_in None = false
+kind_in (Some shape) = shape.1
+
+-- nothing lies below a file, or below a directory without entries
+nothing_below : (tree : Tree) (path : Path) → IsTree tree → (node : Node) → node_at tree path ≡ Some node → (is_directory node && has_entries tree path) ≡ false → (name : List ℕ) (rest : Path) → shape_at tree (path ++ name ∷ rest) ≡ None
+nothing_below tree path h node stood empty name rest =
+    elim (is_directory node) as (λ b. is_directory node ≡ b → (b && has_entries tree path) ≡ false → shape_at tree (path ++ name ∷ rest) ≡ None) [
+      | true ↦ λ d e. leaf tree path h (not_false _ e) name rest
+      | false ↦ λ d e. is_none _ (λ x some.
+          let front = h.shape.fronts path name rest x some in
+          let directory : shape_at tree path ≡ Some (front.0, true) = front.1 in
+          let file : shape_at tree path ≡ Some (node.number, false) = ap shape_of stood ∙ ap (λ b. Some (node.number, b)) d in
+          let kinds : true ≡ false = ap kind_in (sym directory ∙ file) in
+          cc)
+    ] refl empty
+
+remove_end : (tree : Tree) (path : Path) → IsTree tree → (node : Node) → walk tree path ≡ Ok node → (u : ℕ) → refuse_if (is_root path) RootFixed ≡ Ok u
+    → (v : ℕ) → refuse_if (is_directory node && has_entries tree path) NotEmpty ≡ Ok v → IsTree (without tree path)
+remove_end tree path h node walk_ok u named v empty = record {
   ordered = ordered_without tree path h.ordered;
-  shape = same_shape _ _ (remove_shape tree path) (removed_shape (shape_at tree) h.shape path (passed _ RootFixed u named) (leaf tree path h (held _ NotEmpty v empty)));
+  shape = same_shape _ _ (remove_shape tree path) (removed_shape (shape_at tree) h.shape path (passed _ RootFixed u named) (nothing_below tree path h node (walked tree path node walk_ok) (passed _ NotEmpty v empty)));
 }
 
 -- ---- a rename

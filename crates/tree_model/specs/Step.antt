@@ -1,5 +1,5 @@
 -- What a command does to the tree, and what it is answered: the refusals of each in their order.
-use Rattle.std.specs.Prelude.{◌≡◌, ℕ, ◌+◌, Bool, true, false, not, List, [], ◌∷◌, ◌++◌, length, take, drop, Option, Some, None, Result, Ok, Err, is_some, nat_lt, nat_eq}
+use Rattle.std.specs.Prelude.{◌≡◌, ℕ, ◌+◌, Bool, true, false, not, ◌&&◌, List, [], ◌∷◌, ◌++◌, length, take, drop, Option, Some, None, Result, Ok, Err, is_some, nat_lt, nat_eq}
 use Rattle.tree_model.specs.declared.node.Node.{Node}
 use Rattle.tree_model.specs.declared.node.Content.{Content}
 use Rattle.tree_model.specs.declared.node.Content.TheVariants.{File, Directory}
@@ -42,6 +42,13 @@ abbrev pub bytes_of : Content → Result (List ℕ) Refusal
 bytes_of (File bytes) = Ok bytes
 bytes_of (Directory width) = Err IsADirectory
 
+-- whether a directory has entries
+abbrev pub has_entries : Tree → Path → Bool
+has_entries tree path = not (nat_eq (length (entries_of tree path)) 0)
+
+-- ---- the rules, each with its refusals in their order: the first that holds is given
+
+-- A new node, empty and with the least unused number, makes its parent at least as wide as it has entries.
 abbrev pub make : Tree → Path → Content → Result (Reply × Tree) Refusal
 make tree path content = do
   _ ← refuse_if (is_root path) Exists
@@ -56,6 +63,7 @@ abbrev pub written_tree : Tree → Path → ℕ → List ℕ → ℕ → List �
 written_tree tree path number bytes offset [] = tree
 written_tree tree path number bytes offset (byte ∷ rest) = with_node tree path (record { number = number; content = File (written bytes offset (byte ∷ rest)) })
 
+-- A file has at most 4,294,967,296 bytes. A gap before what is written is filled with zeros.
 abbrev pub write : Tree → Path → ℕ → List ℕ → Result (Reply × Tree) Refusal
 write tree path offset given = do
   node ← walk tree path
@@ -63,6 +71,7 @@ write tree path offset given = do
   _ ← refuse_if (nat_lt 4294967296 (offset + length given)) TooBig
   Ok (Done, written_tree tree path node.number bytes offset given)
 
+-- the first bytes, with zeros added up to the size
 abbrev pub truncate : Tree → Path → ℕ → Result (Reply × Tree) Refusal
 truncate tree path size = do
   node ← walk tree path
@@ -70,13 +79,15 @@ truncate tree path size = do
   _ ← refuse_if (nat_lt 4294967296 size) TooBig
   Ok (Done, with_node tree path (record { number = node.number; content = File (resized bytes size) }))
 
+-- A file leaves the tree, or a directory without entries. No width changes.
 abbrev pub remove : Tree → Path → Result (Reply × Tree) Refusal
 remove tree path = do
   node ← walk tree path
   _ ← refuse_if (is_root path) RootFixed
-  _ ← refuse_if (not (nat_eq (length (entries_of tree path)) 0)) NotEmpty
+  _ ← refuse_if (is_directory node && has_entries tree path) NotEmpty
   Ok (Done, without tree path)
 
+-- Every path that begins with one begins with the other, which doesn't lie below the one and isn't there.
 abbrev pub rename : Tree → Path → Path → Result (Reply × Tree) Refusal
 rename tree from to = do
   node ← walk tree from
@@ -88,18 +99,21 @@ rename tree from to = do
   _ ← refuse_if (is_some (strip from to)) Inside
   Ok (Done, widened (moved from to tree) (parent_of to))
 
+-- the bytes from an offset on, at most so many, up to the end
 abbrev pub read : Tree → Path → ℕ → ℕ → Result (Reply × Tree) Refusal
 read tree path offset len = do
   node ← walk tree path
   bytes ← bytes_of node.content
   Ok (Data (take len (drop offset bytes)), tree)
 
+-- the entries of a directory, by the bytes of their names
 abbrev pub list : Tree → Path → Result (Reply × Tree) Refusal
 list tree path = do
   node ← walk tree path
   _ ← refuse_if (not (is_directory node)) NotADirectory
   Ok (Entries (entries_of tree path), tree)
 
+-- how many bytes a file has, or how many entries a directory has
 abbrev pub size_of : Tree → Path → Content → ℕ
 size_of tree path (File bytes) = length bytes
 size_of tree path (Directory width) = length (entries_of tree path)
@@ -116,6 +130,9 @@ layout tree path = do
   bytes ← bytes_of node.content
   Ok (Done, tree)
 
+-- ---- every command
+
+-- the reply and the tree after a command, or why it is refused
 abbrev pub attempt : Tree → Command → Result (Reply × Tree) Refusal
 attempt tree (Mkdir path) = make tree path (Directory 0)
 attempt tree (Create path) = make tree path (File [])
@@ -131,10 +148,12 @@ attempt tree Space = Ok (Done, tree)
 attempt tree Checkpoint = Ok (Done, tree)
 attempt tree End = Ok (Done, tree)
 
+-- a refusal is a reply that leaves the tree
 abbrev pub settled : Tree → Result (Reply × Tree) Refusal → Reply × Tree
 settled tree (Ok done) = done
 settled tree (Err refusal) = (Refused refusal, tree)
 
+-- the reply to a command, and the tree after it
 unfoldable pub step : Tree → Command → Reply × Tree
 step tree command = settled tree (attempt tree command)
 
@@ -171,10 +190,12 @@ is_change Space = false
 is_change Checkpoint = false
 is_change End = false
 
+-- the replies to commands in order
 abbrev pub replies_of : Tree → List Command → List Reply
 replies_of tree [] = []
 replies_of tree (command ∷ commands) = (step tree command).0 ∷ replies_of (step tree command).1 commands
 
+-- the tree after commands in order
 abbrev pub tree_after : Tree → List Command → Tree
 tree_after tree [] = tree
 tree_after tree (command ∷ commands) = tree_after (step tree command).1 commands

@@ -1,5 +1,6 @@
 //! The commands.
 ghost use Rattle.std.specs.Prelude.{◌≡◌, ◌≤◌, ◌↔◌, IsOk, IfOk, length};
+ghost use Rattle.tree_model.specs.Step.{is_plain, is_change};
 
 use crate::Path;
 use std::marker::Model;
@@ -128,4 +129,28 @@ pub enum Command {
     Space,
     Checkpoint,
     End,
+}
+
+impl Command {
+    /// Whether it is of the tree alone, and not of its blocks, of space or of points.
+    pub fn is_plain(&self) -> bool
+        ensures { result ≡ is_plain self.now }
+    {
+        !matches!(
+            self,
+            Command::Layout { .. } | Command::Space | Command::Checkpoint | Command::End
+        )
+    }
+
+    /// Whether it may change the tree. A write of no bytes doesn't.
+    pub fn is_change(&self) -> bool
+        ensures { result ≡ is_change self.now }
+    {
+        match self {
+            Command::Write { bytes, .. } => !bytes.as_slice().is_empty(),
+            Command::Mkdir { .. } | Command::Create { .. } | Command::Truncate { .. } => true,
+            Command::Remove { .. } | Command::Rename { .. } => true,
+            _ => false,
+        }
+    }
 }

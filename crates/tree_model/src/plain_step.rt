@@ -1,9 +1,9 @@
 //! The commands on a plain list of nodes, each as its rule says.
-ghost use Rattle.std.specs.Prelude.{◌≡◌, ◌<◌, [], IfOk, OnOk, OnErr, IsTrue, map, vec_len, vec_capacity};
+ghost use Rattle.std.specs.Prelude.{◌≡◌, ◌<◌, ◌&&◌, [], IfOk, OnOk, OnErr, IsTrue, map, vec_len, vec_capacity};
 ghost use Rattle.tree_model.specs.Attempts.{Attempts};
 ghost use Rattle.tree_model.specs.Path.{parent_of};
-ghost use Rattle.tree_model.specs.Tree.{moved, new_path, widened};
-ghost use Rattle.tree_model.specs.Step.{make, write, truncate, read, remove, rename, list, stat, size_of, attempt, is_plain};
+ghost use Rattle.tree_model.specs.Tree.{is_directory, moved, new_path, widened};
+ghost use Rattle.tree_model.specs.Step.{make, write, truncate, read, remove, rename, list, stat, size_of, has_entries, attempt, is_plain};
 ghost use Rattle.tree_model.specs.declared.plain_step.StepFault.TheVariants.{Memory, Refused};
 
 use crate::node_list::{
@@ -117,15 +117,25 @@ fn truncate(
     Ok(Reply::Done)
 }
 
+// Whether a node is a directory with entries.
+fn is_full(nodes: &[(NameList, Node)], path: &[Name], node: &Node) -> bool
+    ensures { result ≡ (is_directory node.now && has_entries nodes.now path.now) }
+{
+    if !is_directory(node) {
+        return false;
+    }
+    entry_count(nodes, path) != 0
+}
+
 fn remove(nodes: &mut Vec<(NameList, Node)>, path: &Path) -> Result<Reply, StepFault>
     ensures { Attempts nodes.old.items nodes.new.items result (remove nodes.old.items path.now) }
 {
     let names = path.names();
-    walk(nodes, names)?;
+    let node = walk(nodes, names)?;
     if names.is_empty() {
         return Err(StepFault::Refused(Refusal::RootFixed));
     }
-    if entry_count(nodes, names) != 0 {
+    if is_full(nodes, names, node) {
         return Err(StepFault::Refused(Refusal::NotEmpty));
     }
     take_away(nodes, names);
