@@ -4,6 +4,18 @@ use std::alloc::Global;
 use std::test::Fail;
 use vol_numbers::{ByteList, Name};
 
+// A command whose paths have names of a letter each.
+#[derive(Clone, Copy)]
+enum Act<'a> {
+    Mkdir(&'a [u8]),
+    Create(&'a [u8]),
+    Write(&'a [u8], u64, &'a [u8]),
+    Truncate(&'a [u8], u64),
+    Remove(&'a [u8]),
+    Rename(&'a [u8], &'a [u8]),
+    List(&'a [u8]),
+}
+
 // A path whose names have a letter each.
 fn letters(alloc: Global, text: &[u8]) -> Result<Path, Fail> {
     let mut names = Vec::new(alloc);
@@ -11,6 +23,49 @@ fn letters(alloc: Global, text: &[u8]) -> Result<Path, Fail> {
         names.push(Name::new(&[*letter])?)?;
     }
     Ok(Path::new(NameList::from_vec(names))?)
+}
+
+fn write(alloc: Global, path: &[u8], offset: u64, bytes: &[u8]) -> Result<Command, Fail> {
+    let path = letters(alloc, path)?;
+    let bytes = Payload::new(ByteList::from_vec(Vec::from_slice(alloc, bytes)?))?;
+    Ok(Command::Write {
+        path,
+        offset,
+        bytes,
+    })
+}
+
+fn rename(alloc: Global, from: &[u8], to: &[u8]) -> Result<Command, Fail> {
+    let from = letters(alloc, from)?;
+    let to = letters(alloc, to)?;
+    Ok(Command::Rename { from, to })
+}
+
+fn command(alloc: Global, act: Act) -> Result<Command, Fail> {
+    match act {
+        Act::Write(path, offset, bytes) => write(alloc, path, offset, bytes),
+        Act::Rename(from, to) => rename(alloc, from, to),
+        Act::Mkdir(path) => {
+            let path = letters(alloc, path)?;
+            Ok(Command::Mkdir { path })
+        }
+        Act::Create(path) => {
+            let path = letters(alloc, path)?;
+            Ok(Command::Create { path })
+        }
+        Act::Truncate(path, size) => {
+            let path = letters(alloc, path)?;
+            Ok(Command::Truncate { path, size })
+        }
+        Act::Remove(path) => {
+            let path = letters(alloc, path)?;
+            Ok(Command::Remove { path })
+        }
+        Act::List(path) => {
+            let path = letters(alloc, path)?;
+            Ok(Command::List { path })
+        }
+    }
 }
 
 // The number of a refusal, and 0 of any other reply.
@@ -21,148 +76,176 @@ fn number(reply: &Reply) -> u32 {
     }
 }
 
-#[derive(Drop)]
-struct Session {
+// The first command whose reply isn't the wanted one.
+fn differs(
     alloc: Global,
-    tree: PlainTree,
+    tree: &mut PlainTree,
+    acts: &[(Act, u32)],
+) -> Result<Option<usize>, Fail> {
+    for i in 0..acts.len() {
+        let (act, want) = acts[i];
+        let command = command(alloc, act)?;
+        if !command.is_plain() {
+            return Ok(Some(i));
+        }
+        if number(&tree.step(&command)?) != want {
+            return Ok(Some(i));
+        }
+    }
+    Ok(None)
 }
 
-impl Session {
-    fn new(alloc: Global) -> Result<Session, Fail> {
-        let tree = PlainTree::new(alloc)?;
-        Ok(Session { alloc, tree })
+// Whether a read of so many bytes at the offset gives these.
+fn reads(
+    alloc: Global,
+    tree: &mut PlainTree,
+    (path, offset, length): (&[u8], u64, u32),
+    want: &[u8],
+) -> Result<bool, Fail> {
+    let path = letters(alloc, path)?;
+    let length = ReadLength::new(length)?;
+    let reply = tree.step(&Command::Read {
+        path,
+        offset,
+        length,
+    })?;
+    match reply {
+        Reply::Data(bytes) => Ok(bytes.as_slice() == want),
+        _ => Ok(false),
     }
+}
 
-    fn mkdir(&mut self, path: &[u8]) -> Result<u32, Fail> {
-        let path = letters(self.alloc, path)?;
-        Ok(number(&self.tree.step(&Command::Mkdir { path })?))
-    }
-
-    fn create(&mut self, path: &[u8]) -> Result<u32, Fail> {
-        let path = letters(self.alloc, path)?;
-        Ok(number(&self.tree.step(&Command::Create { path })?))
-    }
-
-    fn write(&mut self, path: &[u8], offset: u64, bytes: &[u8]) -> Result<u32, Fail> {
-        let path = letters(self.alloc, path)?;
-        let bytes = Payload::new(ByteList::from_vec(Vec::from_slice(self.alloc, bytes)?))?;
-        Ok(number(
-            &self.tree.step(&Command::Write {
-                path,
-                offset,
-                bytes,
-            })?,
-        ))
-    }
-
-    fn truncate(&mut self, path: &[u8], size: u64) -> Result<u32, Fail> {
-        let path = letters(self.alloc, path)?;
-        Ok(number(&self.tree.step(&Command::Truncate { path, size })?))
-    }
-
-    fn remove(&mut self, path: &[u8]) -> Result<u32, Fail> {
-        let path = letters(self.alloc, path)?;
-        Ok(number(&self.tree.step(&Command::Remove { path })?))
-    }
-
-    fn rename(&mut self, from: &[u8], to: &[u8]) -> Result<u32, Fail> {
-        let from = letters(self.alloc, from)?;
-        let to = letters(self.alloc, to)?;
-        Ok(number(&self.tree.step(&Command::Rename { from, to })?))
-    }
-
-    fn list(&mut self, path: &[u8]) -> Result<Reply, Fail> {
-        let path = letters(self.alloc, path)?;
-        Ok(self.tree.step(&Command::List { path })?)
-    }
-
-    // Whether a read of so many bytes at the offset gives these.
-    fn reads(&mut self, path: &[u8], offset: u64, length: u32, want: &[u8]) -> Result<bool, Fail> {
-        let path = letters(self.alloc, path)?;
-        let length = ReadLength::new(length)?;
-        let reply = self.tree.step(&Command::Read {
-            path,
-            offset,
-            length,
-        })?;
-        match reply {
-            Reply::Data(bytes) => Ok(bytes.as_slice() == want),
-            _ => Ok(false),
-        }
-    }
-
-    // Whether a stat gives this number and size.
-    fn stats(&mut self, path: &[u8], want: (Kind, u32, u64)) -> Result<bool, Fail> {
-        let path = letters(self.alloc, path)?;
-        match self.tree.step(&Command::Stat { path })? {
-            Reply::Stat { kind, number, size } => Ok((kind, number, size) == want),
-            _ => Ok(false),
-        }
+// Whether a stat gives this kind, number and size.
+fn stats(
+    alloc: Global,
+    tree: &mut PlainTree,
+    path: &[u8],
+    want: (Kind, u32, u64),
+) -> Result<bool, Fail> {
+    let path = letters(alloc, path)?;
+    match tree.step(&Command::Stat { path })? {
+        Reply::Stat { kind, number, size } => Ok((kind, number, size) == want),
+        _ => Ok(false),
     }
 }
 
 #[test]
 fn refusals_come_in_their_order(rt: HostRuntime) -> Result<(), Fail> {
-    let mut session = Session::new(rt.alloc())?;
-    assert_eq!(rt; session.create(b"a")?, 0);
-    assert_eq!(rt; session.create(b"a")?, 6);
-    assert_eq!(rt; session.mkdir(b"")?, 6);
-    assert_eq!(rt; session.write(b"b", 0, b"x")?, 3);
-    assert_eq!(rt; session.write(b"", 0, b"x")?, 5);
-    assert_eq!(rt; session.create(b"ab")?, 4);
-    assert_eq!(rt; session.remove(b"")?, 7);
-    assert_eq!(rt; session.mkdir(b"d")?, 0);
-    assert_eq!(rt; session.rename(b"d", b"de")?, 8);
-    assert_eq!(rt; session.create(b"df")?, 0);
-    assert_eq!(rt; session.remove(b"d")?, 9);
-    assert_eq!(rt; number(&session.list(b"a")?), 4);
-    // Onto an existing name inside itself, and a rename of the root.
-    assert_eq!(rt; session.rename(b"d", b"df")?, 6);
-    assert_eq!(rt; session.rename(b"", b"")?, 6);
-    assert_eq!(rt; session.rename(b"", b"e")?, 7);
-    assert_eq!(rt; session.rename(b"x", b"")?, 3);
+    let alloc = rt.alloc();
+    let mut tree = PlainTree::new(alloc)?;
+    let acts = [
+        (Act::Create(b"a"), 0),
+        (Act::Create(b"a"), 6),
+        (Act::Mkdir(b""), 6),
+        (Act::Write(b"b", 0, b"x"), 3),
+        (Act::Write(b"", 0, b"x"), 5),
+        (Act::Create(b"ab"), 4),
+        (Act::Remove(b""), 7),
+        (Act::Mkdir(b"d"), 0),
+        (Act::Rename(b"d", b"de"), 8),
+        (Act::Create(b"df"), 0),
+        (Act::Remove(b"d"), 9),
+        (Act::List(b"a"), 4),
+        // Onto an existing name inside itself, and renames of the root and onto it.
+        (Act::Rename(b"d", b"df"), 6),
+        (Act::Rename(b"", b""), 6),
+        (Act::Rename(b"", b"e"), 7),
+        (Act::Rename(b"x", b""), 3),
+    ];
+    assert_eq!(rt; differs(alloc, &mut tree, &acts)?, None);
     Ok(())
 }
 
 #[test]
 fn bytes_end_at_the_limit(rt: HostRuntime) -> Result<(), Fail> {
-    let mut session = Session::new(rt.alloc())?;
-    assert_eq!(rt; session.create(b"z")?, 0);
-    assert_eq!(rt; session.write(b"z", 4_294_967_295, b"xy")?, 10);
-    assert_eq!(rt; session.write(b"z", 18_446_744_073_709_551_615, b"x")?, 10);
-    assert_eq!(rt; session.write(b"z", 4_294_967_296, b"")?, 0);
-    assert_eq!(rt; session.write(b"z", 4_294_967_297, b"")?, 10);
-    assert_eq!(rt; session.truncate(b"z", 4_294_967_297)?, 10);
-    assert!(rt; session.stats(b"z", (Kind::File, 2, 0))?);
-    assert_eq!(rt; session.write(b"z", 3, b"abc")?, 0);
-    assert!(rt; session.reads(b"z", 0, 65_536, b"\0\0\0abc")?);
-    assert!(rt; session.reads(b"z", 4, 10, b"bc")?);
-    assert!(rt; session.reads(b"z", 6, 10, b"")?);
-    assert!(rt; session.reads(b"z", 4_294_967_295, 10, b"")?);
-    assert_eq!(rt; session.truncate(b"z", 4)?, 0);
-    assert_eq!(rt; session.truncate(b"z", 6)?, 0);
-    assert!(rt; session.reads(b"z", 0, 6, b"\0\0\0a\0\0")?);
+    let alloc = rt.alloc();
+    let mut tree = PlainTree::new(alloc)?;
+    let acts = [
+        (Act::Create(b"z"), 0),
+        (Act::Write(b"z", 4_294_967_295, b"xy"), 10),
+        (Act::Write(b"z", 18_446_744_073_709_551_615, b"x"), 10),
+        (Act::Write(b"z", 4_294_967_296, b""), 0),
+        (Act::Write(b"z", 4_294_967_297, b""), 10),
+        (Act::Truncate(b"z", 4_294_967_297), 10),
+        (Act::Write(b"z", 3, b"abc"), 0),
+    ];
+    assert_eq!(rt; differs(alloc, &mut tree, &acts)?, None);
+    for (offset, length, want) in [
+        (0, 65_536, b"\0\0\0abc".as_slice()),
+        (4, 10, b"bc".as_slice()),
+        (6, 10, b"".as_slice()),
+        (4_294_967_295, 10, b"".as_slice()),
+    ] {
+        assert!(rt;
+            reads(alloc, &mut tree, (b"z", offset, length), want)?,
+            "at {offset}"
+        );
+    }
+    Ok(())
+}
+
+#[test]
+fn cut_bytes_come_back_as_zeros(rt: HostRuntime) -> Result<(), Fail> {
+    let alloc = rt.alloc();
+    let mut tree = PlainTree::new(alloc)?;
+    let acts = [
+        (Act::Create(b"z"), 0),
+        (Act::Write(b"z", 0, b"abcdef"), 0),
+        (Act::Truncate(b"z", 4), 0),
+        (Act::Truncate(b"z", 6), 0),
+    ];
+    assert_eq!(rt; differs(alloc, &mut tree, &acts)?, None);
+    assert!(rt; reads(alloc, &mut tree, (b"z", 0, 10), b"abcd\0\0")?);
     Ok(())
 }
 
 #[test]
 fn numbers_are_given_again(rt: HostRuntime) -> Result<(), Fail> {
-    let mut session = Session::new(rt.alloc())?;
-    assert_eq!(rt; session.create(b"a")?, 0);
-    assert_eq!(rt; session.mkdir(b"d")?, 0);
-    assert_eq!(rt; session.create(b"df")?, 0);
-    assert_eq!(rt; session.remove(b"a")?, 0);
-    assert_eq!(rt; session.create(b"dg")?, 0);
-    assert!(rt; session.stats(b"dg", (Kind::File, 2, 0))?);
-    assert!(rt; session.stats(b"df", (Kind::File, 4, 0))?);
-    assert!(rt; session.stats(b"d", (Kind::Directory, 3, 2))?);
-    assert!(rt; session.stats(b"", (Kind::Directory, 1, 1))?);
+    let alloc = rt.alloc();
+    let mut tree = PlainTree::new(alloc)?;
+    let acts = [
+        (Act::Create(b"a"), 0),
+        (Act::Mkdir(b"d"), 0),
+        (Act::Create(b"df"), 0),
+        (Act::Remove(b"a"), 0),
+        (Act::Create(b"dg"), 0),
+    ];
+    assert_eq!(rt; differs(alloc, &mut tree, &acts)?, None);
+    for (path, want) in [
+        (b"dg".as_slice(), (Kind::File, 2, 0)),
+        (b"df".as_slice(), (Kind::File, 4, 0)),
+        (b"d".as_slice(), (Kind::Directory, 3, 2)),
+        (b"".as_slice(), (Kind::Directory, 1, 1)),
+    ] {
+        assert!(rt;
+            stats(alloc, &mut tree, path, want)?,
+            "with {} names",
+            path.len()
+        );
+    }
     Ok(())
 }
 
-// Whether an entry is a file with this number and name.
-fn is_file(entry: &Entry, number: u32, name: &[u8]) -> bool {
-    entry.kind == Kind::File && entry.number == number && entry.name.as_bytes() == name
+// A path of one name.
+fn named(alloc: Global, name: &[u8]) -> Result<Path, Fail> {
+    let mut names = Vec::new(alloc);
+    names.push(Name::new(name)?)?;
+    Ok(Path::new(NameList::from_vec(names))?)
+}
+
+// Whether these are files with these numbers and names.
+fn are_files(entries: &[Entry], want: &[(u32, &[u8])]) -> bool {
+    if entries.len() != want.len() {
+        return false;
+    }
+    for i in 0..entries.len() {
+        let entry = &entries[i];
+        let (number, name) = want[i];
+        if entry.kind != Kind::File || entry.number != number || entry.name.as_bytes() != name {
+            return false;
+        }
+    }
+    true
 }
 
 #[test]
@@ -176,51 +259,45 @@ fn entries_are_in_the_order_of_their_bytes(rt: HostRuntime) -> Result<(), Fail> 
         &long,
         b"b".as_slice(),
     ] {
-        let mut names = Vec::new(alloc);
-        names.push(Name::new(name)?)?;
-        let path = Path::new(NameList::from_vec(names))?;
+        let path = named(alloc, name)?;
         assert_eq!(rt; number(&tree.step(&Command::Create { path })?), 0);
     }
     let path = Path::root(alloc);
-    match tree.step(&Command::List { path })? {
-        Reply::Entries(entries) => {
-            assert_eq!(rt; entries.len(), 4);
-            for (entry, (number, name)) in entries.as_slice().iter().zip([
-                (3, b"\x01".as_slice()),
-                (5, b"b".as_slice()),
-                (4, &long),
-                (2, b"b\xff".as_slice()),
-            ]) {
-                assert!(rt;
-                    is_file(entry, number, name),
-                    "the entry with number {number}"
-                );
-            }
-        }
-        _ => assert!(rt; false, "no entries"),
-    }
+    let Reply::Entries(entries) = tree.step(&Command::List { path })? else {
+        return Err(Fail::new("no entries"));
+    };
+    let want = [
+        (3, b"\x01".as_slice()),
+        (5, b"b".as_slice()),
+        (4, &long),
+        (2, b"b\xff".as_slice()),
+    ];
+    assert!(rt; are_files(entries.as_slice(), &want));
     Ok(())
+}
+
+// As many names, each of so many bytes.
+fn names(alloc: Global, count: usize, size: usize) -> Result<Vec<Name>, Fail> {
+    let bytes = [b'n'; 250];
+    let mut names = Vec::new(alloc);
+    for _ in 0..count {
+        names.push(Name::new(&bytes[..size.min(250)])?)?;
+    }
+    Ok(names)
 }
 
 #[test]
 fn paths_have_limits(rt: HostRuntime) -> Result<(), Fail> {
     let alloc = rt.alloc();
     for (count, want) in [(32, true), (33, false)] {
-        let mut names = Vec::new(alloc);
-        for _ in 0..count {
-            names.push(Name::new(b"a")?)?;
-        }
-        let path = Path::new(NameList::from_vec(names));
+        let path = Path::new(NameList::from_vec(names(alloc, count, 1)?));
         assert_eq!(rt; path.is_ok(), want, "of {count} names");
     }
     // 4 names of 250 bytes and one of 19 have length 1,024.
     for (last, want) in [(19, true), (20, false)] {
-        let mut names = Vec::new(alloc);
-        for _ in 0..4 {
-            names.push(Name::new(&[b'n'; 250])?)?;
-        }
-        names.push(Name::new(&[b'n'; 20][..last])?)?;
-        let path = Path::new(NameList::from_vec(names));
+        let mut all = names(alloc, 4, 250)?;
+        all.push(Name::new(&[b'n'; 20][..last])?)?;
+        let path = Path::new(NameList::from_vec(all));
         assert_eq!(rt; path.is_ok(), want, "with {last} bytes in the last name");
         if let Ok(path) = path {
             assert_eq!(rt; path.length(), 1_024);
@@ -231,26 +308,31 @@ fn paths_have_limits(rt: HostRuntime) -> Result<(), Fail> {
 
 #[test]
 fn a_deep_directory_comes_back(rt: HostRuntime) -> Result<(), Fail> {
-    let mut session = Session::new(rt.alloc())?;
+    let alloc = rt.alloc();
+    let mut tree = PlainTree::new(alloc)?;
     // Two rows of 20 directories one in another, with a file at the end of the second.
-    let row = [b'a'; 20];
-    let mut other = [b'a'; 20];
+    let row = [b'a'; 32];
+    let mut other = [b'a'; 21];
     other[0] = b'b';
     for depth in 1..21 {
-        assert_eq!(rt; session.mkdir(&row[..depth])?, 0);
-        assert_eq!(rt; session.mkdir(&other[..depth])?, 0);
+        let acts = [
+            (Act::Mkdir(&row[..depth]), 0),
+            (Act::Mkdir(&other[..depth]), 0),
+        ];
+        assert_eq!(rt; differs(alloc, &mut tree, &acts)?, None);
     }
-    let mut file = [b'a'; 21];
-    file[0] = b'b';
-    assert_eq!(rt; session.create(&file)?, 0);
-    assert_eq!(rt; session.write(&file, 0, b"deep")?, 0);
     // The second row goes below the first: the file is then the 41st name of its path.
-    let below = [b'a'; 21];
-    assert_eq!(rt; session.rename(b"b", &below)?, 0);
-    assert_eq!(rt; number(&session.list(&[b'a'; 32])?), 0);
-    assert!(rt; session.stats(&[b'a'; 32], (Kind::Directory, 25, 1))?);
-    assert_eq!(rt; session.rename(&below, b"b")?, 0);
-    assert!(rt; session.reads(&file, 0, 10, b"deep")?);
+    let acts = [
+        (Act::Create(&other), 0),
+        (Act::Write(&other, 0, b"deep"), 0),
+        (Act::Rename(b"b", &row[..21]), 0),
+        (Act::List(&row), 0),
+    ];
+    assert_eq!(rt; differs(alloc, &mut tree, &acts)?, None);
+    assert!(rt; stats(alloc, &mut tree, &row, (Kind::Directory, 25, 1))?);
+    let acts = [(Act::Rename(&row[..21], b"b"), 0)];
+    assert_eq!(rt; differs(alloc, &mut tree, &acts)?, None);
+    assert!(rt; reads(alloc, &mut tree, (&other, 0, 10), b"deep")?);
     Ok(())
 }
 
