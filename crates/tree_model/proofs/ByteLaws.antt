@@ -28,6 +28,13 @@ contains_places number first count place h k =
     let at : first + (place - first) ≡ place = omega arith in
     (place - first, omega (arith, length_places number first count), places_at number first count (place - first) (number, place) (omega arith) ∙ ap (λ x. (number, x)) at)
 
+pub within_places : (number first count m place : ℕ) → Contains (places number first count) (m, place) → (first ≤ place) × (place < first + count)
+within_places number first count m place (k, below, is) =
+    let counted : length (places number first count) ≡ count = length_places number first count in
+    let at : (number, first + k) ≡ (m, place) = sym (places_at number first count k (m, place) (omega arith)) ∙ is in
+    let same : first + k ≡ place = ap (λ (x : ℕ × ℕ). x.1) at in
+    (omega arith, omega arith)
+
 -- ---- bytes
 
 length_resized : (bytes : List ℕ) (size : ℕ) → length (resized bytes size) ≡ size

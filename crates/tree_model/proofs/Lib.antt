@@ -14,4 +14,5 @@ pub mod Renames
 pub mod Shapes
 pub mod StepFollows
 pub mod StepShapes
+pub mod TouchLaws
 pub mod Walks

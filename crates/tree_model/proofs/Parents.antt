@@ -1,3 +1,4 @@
+-- The parent of a path, as its names without the last.
 use Rattle.std.proofs.Common.{◌≡◌, ◌-◌, [], ◌∷◌, length, take, refl, ap, sub-one}
 use Rattle.tree_model.specs.Path.{Path, parent_of}
 

@@ -154,4 +154,4 @@ new_shape = record {
 }
 
 pub keeps_trees : KeepsTree
-keeps_trees = record { new = record { ordered = refl; shape = new_shape }; step = keeps_tree }
+keeps_trees = record { at_first = record { ordered = refl; shape = new_shape }; after_step = keeps_tree }

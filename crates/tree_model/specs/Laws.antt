@@ -1,8 +1,8 @@
 -- What holds of the definition of the tree, in words that its rules don't use.
-use Rattle.std.specs.Prelude.{◌≡◌, ◌≢◌, ◌≤◌, ◌<◌, ℕ, IsTrue, Bool, true, false, not, if◌then◌else◌, List, [], ◌++◌, Option, Some, None}
+use Rattle.std.specs.Prelude.{◌≡◌, ◌≢◌, ◌≤◌, ◌<◌, ℕ, IsTrue, Bool, true, false, not, if◌then◌else◌, List, [], ◌++◌, ◌+◌, ◌/◌, length, Contains, Option, Some, None}
 use Rattle.std.specs.Ordering.{eq_by_cmp}
 use Rattle.tree_model.specs.declared.command.Command.{Command}
-use Rattle.tree_model.specs.declared.command.Command.TheVariants.{Rename}
+use Rattle.tree_model.specs.declared.command.Command.TheVariants.{Write, Rename}
 use Rattle.tree_model.specs.declared.node.Node.{Node}
 use Rattle.tree_model.specs.declared.node.Content.TheVariants.{File, Directory}
 use Rattle.tree_model.specs.declared.refusal.Refusal.{Refusal}
@@ -49,8 +49,8 @@ pub record GivesLeast : Type 0 where
 
 -- the tree with the root alone is a tree, and a command leaves a tree a tree
 pub record KeepsTree : Type 0 where
-  pub new : IsTree new_tree
-  pub step : (tree : Tree) (command : Command) → IsTree tree → IsTree (step tree command).1
+  pub at_first : IsTree new_tree
+  pub after_step : (tree : Tree) (command : Command) → IsTree tree → IsTree (step tree command).1
 
 -- exactly the paths that begin with one begin with the other, and the directory that the node comes into may be wider
 pub record RenameMoves (from to : Path) (old new : Tree) : Type 0 where
@@ -71,6 +71,11 @@ abbrev pub TouchesOnly : Type 0
 TouchesOnly = (tree : Tree) (command : Command) → IsTree tree → (p q : Path) (number : ℕ) (old new : List ℕ)
     → node_at tree p ≡ Some (record { number = number; content = File old }) → node_at (step tree command).1 q ≡ Some (record { number = number; content = File new })
     → KeepsUntouched (touched tree command) number old new
+
+-- each place that a write touches has a byte of it
+abbrev pub TouchesWritten : Type 0
+TouchesWritten = (tree : Tree) (path : Path) (offset : ℕ) (bytes : List ℕ) (number place : ℕ) → Contains (touched tree (Write path offset bytes)) (number, place)
+    → (i : ℕ) × (offset ≤ i) × (i < offset + length bytes) × (i / 4096 ≡ place)
 
 -- a width never falls, wherever the directory is before and after the command
 abbrev pub WidthsNeverFall : Type 0

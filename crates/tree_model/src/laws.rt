@@ -1,5 +1,5 @@
 //! Laws of the definition of the tree, each on a function whose contract it is.
-ghost use Rattle.tree_model.specs.Laws.{KeepsOrder, SameTree, PutAt, RefusedLeaves, ReadingLeaves, GivesLeast, KeepsTree, RenamesMove, NodesFollow, TouchesOnly, WidthsNeverFall};
+ghost use Rattle.tree_model.specs.Laws.{KeepsOrder, SameTree, PutAt, RefusedLeaves, ReadingLeaves, GivesLeast, KeepsTree, RenamesMove, NodesFollow, TouchesOnly, TouchesWritten, WidthsNeverFall};
 
 /// A command leaves the tree in the order of its paths, each path once.
 pub fn keeps_order()
@@ -50,6 +50,11 @@ pub fn nodes_follow()
 /// No byte of a place that a command doesn't touch changes.
 pub fn touches_only()
     ensures { TouchesOnly }
+{}
+
+/// Each place that a write touches has a byte of it.
+pub fn touches_written()
+    ensures { TouchesWritten }
 {}
 
 /// A width never falls.

@@ -19,7 +19,7 @@ mod tests;
 pub use command::{Command, MOST_BYTES, Payload, ReadLength, TooLong};
 pub use laws::{
     gives_least, keeps_order, keeps_tree, nodes_follow, put_at, reading_leaves, refused_leaves,
-    renames_move, same_tree, touches_only, widths_never_fall,
+    renames_move, same_tree, touches_only, touches_written, widths_never_fall,
 };
 pub use node::{Content, NameList, Node};
 pub use path::{BadPath, Path};
