@@ -129,47 +129,49 @@ fn stats(
     }
 }
 
+const REFUSALS: [(Act<'static>, u32); 16] = [
+    (Act::Create(b"a"), 0),
+    (Act::Create(b"a"), 6),
+    (Act::Mkdir(b""), 6),
+    (Act::Write(b"b", 0, b"x"), 3),
+    (Act::Write(b"", 0, b"x"), 5),
+    (Act::Create(b"ab"), 4),
+    (Act::Remove(b""), 7),
+    (Act::Mkdir(b"d"), 0),
+    (Act::Rename(b"d", b"de"), 8),
+    (Act::Create(b"df"), 0),
+    (Act::Remove(b"d"), 9),
+    (Act::List(b"a"), 4),
+    // Onto an existing name inside itself, and renames of the root and onto it.
+    (Act::Rename(b"d", b"df"), 6),
+    (Act::Rename(b"", b""), 6),
+    (Act::Rename(b"", b"e"), 7),
+    (Act::Rename(b"x", b""), 3),
+];
+
 #[test]
 fn refusals_come_in_their_order(rt: HostRuntime) -> Result<(), Fail> {
     let alloc = rt.alloc();
     let mut tree = PlainTree::new(alloc)?;
-    let acts = [
-        (Act::Create(b"a"), 0),
-        (Act::Create(b"a"), 6),
-        (Act::Mkdir(b""), 6),
-        (Act::Write(b"b", 0, b"x"), 3),
-        (Act::Write(b"", 0, b"x"), 5),
-        (Act::Create(b"ab"), 4),
-        (Act::Remove(b""), 7),
-        (Act::Mkdir(b"d"), 0),
-        (Act::Rename(b"d", b"de"), 8),
-        (Act::Create(b"df"), 0),
-        (Act::Remove(b"d"), 9),
-        (Act::List(b"a"), 4),
-        // Onto an existing name inside itself, and renames of the root and onto it.
-        (Act::Rename(b"d", b"df"), 6),
-        (Act::Rename(b"", b""), 6),
-        (Act::Rename(b"", b"e"), 7),
-        (Act::Rename(b"x", b""), 3),
-    ];
-    assert_eq!(rt; differs(alloc, &mut tree, &acts)?, None);
+    assert_eq!(rt; differs(alloc, &mut tree, &REFUSALS)?, None);
     Ok(())
 }
+
+const AT_THE_LIMIT: [(Act<'static>, u32); 7] = [
+    (Act::Create(b"z"), 0),
+    (Act::Write(b"z", 4_294_967_295, b"xy"), 10),
+    (Act::Write(b"z", 18_446_744_073_709_551_615, b"x"), 10),
+    (Act::Write(b"z", 4_294_967_296, b""), 0),
+    (Act::Write(b"z", 4_294_967_297, b""), 10),
+    (Act::Truncate(b"z", 4_294_967_297), 10),
+    (Act::Write(b"z", 3, b"abc"), 0),
+];
 
 #[test]
 fn bytes_end_at_the_limit(rt: HostRuntime) -> Result<(), Fail> {
     let alloc = rt.alloc();
     let mut tree = PlainTree::new(alloc)?;
-    let acts = [
-        (Act::Create(b"z"), 0),
-        (Act::Write(b"z", 4_294_967_295, b"xy"), 10),
-        (Act::Write(b"z", 18_446_744_073_709_551_615, b"x"), 10),
-        (Act::Write(b"z", 4_294_967_296, b""), 0),
-        (Act::Write(b"z", 4_294_967_297, b""), 10),
-        (Act::Truncate(b"z", 4_294_967_297), 10),
-        (Act::Write(b"z", 3, b"abc"), 0),
-    ];
-    assert_eq!(rt; differs(alloc, &mut tree, &acts)?, None);
+    assert_eq!(rt; differs(alloc, &mut tree, &AT_THE_LIMIT)?, None);
     for (offset, length, want) in [
         (0, 65_536, b"\0\0\0abc".as_slice()),
         (4, 10, b"bc".as_slice()),
@@ -184,33 +186,35 @@ fn bytes_end_at_the_limit(rt: HostRuntime) -> Result<(), Fail> {
     Ok(())
 }
 
+const CUT_AND_GROWN: [(Act<'static>, u32); 4] = [
+    (Act::Create(b"z"), 0),
+    (Act::Write(b"z", 0, b"abcdef"), 0),
+    (Act::Truncate(b"z", 4), 0),
+    (Act::Truncate(b"z", 6), 0),
+];
+
 #[test]
 fn cut_bytes_come_back_as_zeros(rt: HostRuntime) -> Result<(), Fail> {
     let alloc = rt.alloc();
     let mut tree = PlainTree::new(alloc)?;
-    let acts = [
-        (Act::Create(b"z"), 0),
-        (Act::Write(b"z", 0, b"abcdef"), 0),
-        (Act::Truncate(b"z", 4), 0),
-        (Act::Truncate(b"z", 6), 0),
-    ];
-    assert_eq!(rt; differs(alloc, &mut tree, &acts)?, None);
+    assert_eq!(rt; differs(alloc, &mut tree, &CUT_AND_GROWN)?, None);
     assert!(rt; reads(alloc, &mut tree, (b"z", 0, 10), b"abcd\0\0")?);
     Ok(())
 }
+
+const REMOVED_AND_MADE: [(Act<'static>, u32); 5] = [
+    (Act::Create(b"a"), 0),
+    (Act::Mkdir(b"d"), 0),
+    (Act::Create(b"df"), 0),
+    (Act::Remove(b"a"), 0),
+    (Act::Create(b"dg"), 0),
+];
 
 #[test]
 fn numbers_are_given_again(rt: HostRuntime) -> Result<(), Fail> {
     let alloc = rt.alloc();
     let mut tree = PlainTree::new(alloc)?;
-    let acts = [
-        (Act::Create(b"a"), 0),
-        (Act::Mkdir(b"d"), 0),
-        (Act::Create(b"df"), 0),
-        (Act::Remove(b"a"), 0),
-        (Act::Create(b"dg"), 0),
-    ];
-    assert_eq!(rt; differs(alloc, &mut tree, &acts)?, None);
+    assert_eq!(rt; differs(alloc, &mut tree, &REMOVED_AND_MADE)?, None);
     for (path, want) in [
         (b"dg".as_slice(), (Kind::File, 2, 0)),
         (b"df".as_slice(), (Kind::File, 4, 0)),
@@ -306,33 +310,46 @@ fn paths_have_limits(rt: HostRuntime) -> Result<(), Fail> {
     Ok(())
 }
 
+// Makes rows of directories one in another, of which each path is a front of these.
+fn make_rows(alloc: Global, tree: &mut PlainTree, a: &[u8], b: &[u8]) -> Result<bool, Fail> {
+    for depth in 1..21 {
+        let (Some(first), Some(second)) = (a.get(..depth), b.get(..depth)) else {
+            return Ok(false);
+        };
+        let acts = [(Act::Mkdir(first), 0), (Act::Mkdir(second), 0)];
+        if differs(alloc, tree, &acts)?.is_some() {
+            return Ok(false);
+        }
+    }
+    Ok(true)
+}
+
+// A path of 32 directories, and one of 20 with a file in the last.
+const ROW: &[u8] = b"aaaaaaaaaaaaaaaaaaaaaaaaaaaaaaaa";
+
+const BELOW: &[u8] = b"aaaaaaaaaaaaaaaaaaaaa";
+
+const FILE: &[u8] = b"baaaaaaaaaaaaaaaaaaaa";
+
+// The second row goes below the first: the file is then the 41st name of its path.
+const DOWN: [(Act<'static>, u32); 4] = [
+    (Act::Create(FILE), 0),
+    (Act::Write(FILE, 0, b"deep"), 0),
+    (Act::Rename(b"b", BELOW), 0),
+    (Act::List(ROW), 0),
+];
+
+const BACK: [(Act<'static>, u32); 1] = [(Act::Rename(BELOW, b"b"), 0)];
+
 #[test]
 fn a_deep_directory_comes_back(rt: HostRuntime) -> Result<(), Fail> {
     let alloc = rt.alloc();
     let mut tree = PlainTree::new(alloc)?;
-    // Two rows of 20 directories one in another, with a file at the end of the second.
-    let row = [b'a'; 32];
-    let mut other = [b'a'; 21];
-    other[0] = b'b';
-    for depth in 1..21 {
-        let acts = [
-            (Act::Mkdir(&row[..depth]), 0),
-            (Act::Mkdir(&other[..depth]), 0),
-        ];
-        assert_eq!(rt; differs(alloc, &mut tree, &acts)?, None);
-    }
-    // The second row goes below the first: the file is then the 41st name of its path.
-    let acts = [
-        (Act::Create(&other), 0),
-        (Act::Write(&other, 0, b"deep"), 0),
-        (Act::Rename(b"b", &row[..21]), 0),
-        (Act::List(&row), 0),
-    ];
-    assert_eq!(rt; differs(alloc, &mut tree, &acts)?, None);
-    assert!(rt; stats(alloc, &mut tree, &row, (Kind::Directory, 25, 1))?);
-    let acts = [(Act::Rename(&row[..21], b"b"), 0)];
-    assert_eq!(rt; differs(alloc, &mut tree, &acts)?, None);
-    assert!(rt; reads(alloc, &mut tree, (&other, 0, 10), b"deep")?);
+    assert!(rt; make_rows(alloc, &mut tree, ROW, FILE)?);
+    assert_eq!(rt; differs(alloc, &mut tree, &DOWN)?, None);
+    assert!(rt; stats(alloc, &mut tree, ROW, (Kind::Directory, 25, 1))?);
+    assert_eq!(rt; differs(alloc, &mut tree, &BACK)?, None);
+    assert!(rt; reads(alloc, &mut tree, (FILE, 0, 10), b"deep")?);
     Ok(())
 }
 
