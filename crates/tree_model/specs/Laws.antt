@@ -1,0 +1,84 @@
+-- What holds of the definition of the tree, in words that its rules don't use.
+use Rattle.std.specs.Prelude.{◌≡◌, ◌≢◌, ◌≤◌, ◌<◌, ℕ, IsTrue, Bool, true, false, not, if◌then◌else◌, List, [], ◌++◌, ◌+◌, ◌/◌, length, Contains, Option, Some, None}
+use Rattle.std.specs.Ordering.{eq_by_cmp}
+use Rattle.tree_model.specs.declared.command.Command.{Command}
+use Rattle.tree_model.specs.declared.command.Command.TheVariants.{Write, Rename}
+use Rattle.tree_model.specs.declared.node.Node.{Node}
+use Rattle.tree_model.specs.declared.node.Content.TheVariants.{File, Directory}
+use Rattle.tree_model.specs.declared.refusal.Refusal.{Refusal}
+use Rattle.tree_model.specs.declared.reply.Reply.TheVariants.{Done, Refused}
+use Rattle.tree_model.specs.Follow.{Follows, ComesFrom, KeepsUntouched}
+use Rattle.tree_model.specs.Order.{IsOrdered}
+use Rattle.tree_model.specs.Path.{Path, path_cmp, parent_of, strip}
+use Rattle.tree_model.specs.Shape.{IsTree}
+use Rattle.tree_model.specs.Tree.{Tree, new_tree, node_at, with_node, is_used, least_unused}
+use Rattle.tree_model.specs.Step.{step, is_change}
+use Rattle.tree_model.specs.Touched.{touched}
+
+-- a command leaves the tree in order
+abbrev pub KeepsOrder : Type 0
+KeepsOrder = (tree : Tree) (command : Command) → IsOrdered tree → IsOrdered (step tree command).1
+
+-- trees in order that have the same nodes are one tree
+abbrev pub SameTree : Type 0
+SameTree = (s t : Tree) → IsOrdered s → IsOrdered t → ((path : Path) → node_at s path ≡ node_at t path) → s ≡ t
+
+-- what is put at a path is there, and nothing else changes
+abbrev pub PutAt : Type 0
+PutAt = (tree : Tree) (path : Path) (node : Node) (q : Path) → node_at (with_node tree path node) q ≡ (if eq_by_cmp path_cmp q path then Some node else node_at tree q)
+
+-- a refused command leaves the tree
+abbrev pub RefusedLeaves : Type 0
+RefusedLeaves = (tree : Tree) (command : Command) (refusal : Refusal) → (step tree command).0 ≡ Refused refusal → (step tree command).1 ≡ tree
+
+-- a command that changes nothing leaves the tree
+abbrev pub ReadingLeaves : Type 0
+ReadingLeaves = (tree : Tree) (command : Command) → is_change command ≡ false → (step tree command).1 ≡ tree
+
+-- a number from 2 to 65,535 that no node has, and each lesser one from 2 on is a node's
+pub record IsLeastUnused (tree : Tree) (number : ℕ) : Type 0 where
+  pub at_least : 2 ≤ number
+  pub at_most : number ≤ 65535
+  pub unused : is_used tree number ≡ false
+  pub least : (k : ℕ) → 2 ≤ k → k < number → is_used tree k ≡ true
+
+-- the number of a new node is the least unused, and it is wanting only where all are used
+pub record GivesLeast : Type 0 where
+  pub some : (tree : Tree) (number : ℕ) → least_unused tree ≡ Some number → IsLeastUnused tree number
+  pub none : (tree : Tree) → least_unused tree ≡ None → (k : ℕ) → 2 ≤ k → k ≤ 65535 → is_used tree k ≡ true
+
+-- the tree with the root alone is a tree, and a command leaves a tree a tree
+pub record KeepsTree : Type 0 where
+  pub at_first : IsTree new_tree
+  pub after_step : (tree : Tree) (command : Command) → IsTree tree → IsTree (step tree command).1
+
+-- exactly the paths that begin with one begin with the other, and the directory that the node comes into may be wider
+pub record RenameMoves (from to : Path) (old new : Tree) : Type 0 where
+  pub below : (rest : Path) → node_at new (to ++ rest) ≡ node_at old (from ++ rest)
+  pub left : (rest : Path) → node_at new (from ++ rest) ≡ None
+  pub others : (path : Path) → path ≢ parent_of to → strip from path ≡ None → strip to path ≡ None → node_at new path ≡ node_at old path
+  pub parent : (node : Node) → node_at new (parent_of to) ≡ Some node → (before : Node) × (node_at old (parent_of to) ≡ Some before) × Follows [] before node
+
+abbrev pub RenamesMove : Type 0
+RenamesMove = (tree : Tree) (from to : Path) → IsTree tree → (step tree (Rename from to)).0 ≡ Done → RenameMoves from to tree (step tree (Rename from to)).1
+
+-- each node of the tree after a command follows one of before with the same number, or is new
+abbrev pub NodesFollow : Type 0
+NodesFollow = (tree : Tree) (command : Command) → IsTree tree → ComesFrom (touched tree command) tree (step tree command).1
+
+-- no byte of a place that a command doesn't touch changes, wherever the file is before and after it
+abbrev pub TouchesOnly : Type 0
+TouchesOnly = (tree : Tree) (command : Command) → IsTree tree → (p q : Path) (number : ℕ) (old new : List ℕ)
+    → node_at tree p ≡ Some (record { number = number; content = File old }) → node_at (step tree command).1 q ≡ Some (record { number = number; content = File new })
+    → KeepsUntouched (touched tree command) number old new
+
+-- each place that a write touches has a byte of it
+abbrev pub TouchesWritten : Type 0
+TouchesWritten = (tree : Tree) (path : Path) (offset : ℕ) (bytes : List ℕ) (number place : ℕ) → Contains (touched tree (Write path offset bytes)) (number, place)
+    → (i : ℕ) × (offset ≤ i) × (i < offset + length bytes) × (i / 4096 ≡ place)
+
+-- a width never falls, wherever the directory is before and after the command
+abbrev pub WidthsNeverFall : Type 0
+WidthsNeverFall = (tree : Tree) (command : Command) → IsTree tree → (p q : Path) (number old new : ℕ)
+    → node_at tree p ≡ Some (record { number = number; content = Directory old }) → node_at (step tree command).1 q ≡ Some (record { number = number; content = Directory new })
+    → old ≤ new

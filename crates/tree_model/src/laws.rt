@@ -1,0 +1,63 @@
+//! Laws of the definition of the tree, each on a function whose contract it is.
+ghost use Rattle.tree_model.specs.Laws.{KeepsOrder, SameTree, PutAt, RefusedLeaves, ReadingLeaves, GivesLeast, KeepsTree, RenamesMove, NodesFollow, TouchesOnly, TouchesWritten, WidthsNeverFall};
+
+/// A command leaves the tree in the order of its paths, each path once.
+pub fn keeps_order()
+    ensures { KeepsOrder }
+{}
+
+/// Trees in order that have the same nodes are one tree.
+pub fn same_tree()
+    ensures { SameTree }
+{}
+
+/// What is put at a path is there, and nothing else changes.
+pub fn put_at()
+    ensures { PutAt }
+{}
+
+/// A refused command leaves the tree.
+pub fn refused_leaves()
+    ensures { RefusedLeaves }
+{}
+
+/// Reads, lists, stats and writes of no bytes leave the tree.
+pub fn reading_leaves()
+    ensures { ReadingLeaves }
+{}
+
+/// A new node gets the least number that no node has, and is refused one only where all are had.
+pub fn gives_least()
+    ensures { GivesLeast }
+{}
+
+/// The tree with the root alone is a tree, and a command leaves a tree a tree: the root is directory 1, a directory is
+/// in front of each path, and a number is of one path.
+pub fn keeps_tree()
+    ensures { KeepsTree }
+{}
+
+/// A rename moves exactly the paths that begin with the one.
+pub fn renames_move()
+    ensures { RenamesMove }
+{}
+
+/// Each node of the tree after a command follows a node of before with its number, or is new.
+pub fn nodes_follow()
+    ensures { NodesFollow }
+{}
+
+/// No byte of a place that a command doesn't touch changes.
+pub fn touches_only()
+    ensures { TouchesOnly }
+{}
+
+/// Each place that a write touches has a byte of it.
+pub fn touches_written()
+    ensures { TouchesWritten }
+{}
+
+/// A width never falls.
+pub fn widths_never_fall()
+    ensures { WidthsNeverFall }
+{}

@@ -1,0 +1,29 @@
+//! The tree: its commands and replies, what each command does to it, and a plain tree that does just that.
+#![tactic(auto)]
+
+mod command;
+mod file_bytes;
+mod laws;
+mod node;
+mod node_list;
+mod path;
+mod path_names;
+mod plain_step;
+mod plain_tree;
+mod refusal;
+mod reply;
+mod report;
+#[cfg(test)]
+mod tests;
+
+pub use command::{Command, MOST_BYTES, Payload, ReadLength, TooLong};
+pub use laws::{
+    gives_least, keeps_order, keeps_tree, nodes_follow, put_at, reading_leaves, refused_leaves,
+    renames_move, same_tree, touches_only, touches_written, widths_never_fall,
+};
+pub use node::{Content, NameList, Node};
+pub use path::{BadPath, Path};
+pub use plain_tree::PlainTree;
+pub use refusal::Refusal;
+pub use reply::{Entry, EntryList, Kind, Piece, PieceList, Reply};
+pub use report::{Answer, Line, LineKind, LineList, Report};

@@ -1,0 +1,327 @@
+//! The commands on a plain list of nodes, each as its rule says.
+ghost use Rattle.std.specs.Prelude.{◌≡◌, ◌<◌, ◌&&◌, [], IfOk, OnOk, OnErr, IsTrue, map, vec_len, vec_capacity};
+ghost use Rattle.tree_model.specs.Attempts.{Attempts};
+ghost use Rattle.tree_model.specs.Path.{parent_of};
+ghost use Rattle.tree_model.specs.Tree.{is_directory, moved, new_path, widened};
+ghost use Rattle.tree_model.specs.Step.{make, write, truncate, read, remove, rename, list, stat, size_of, has_entries, attempt, is_plain};
+ghost use Rattle.tree_model.specs.declared.plain_step.StepFault.TheVariants.{Memory, Refused};
+
+use crate::node_list::{
+    entries_of, entry_count, find_node, is_directory, kind_of, least_unused, put, take_away, walk,
+    widen,
+};
+use crate::path_names::{copied, joined, parent_names, strip};
+use crate::{Command, Content, EntryList, NameList, Node, Path, Refusal, Reply, file_bytes};
+use std::alloc::{AllocError, Global};
+use vol_numbers::{ByteList, Name};
+
+/// Why a command was not done.
+#[derive(Clone, Copy)]
+pub enum StepFault {
+    Memory,
+    Refused(Refusal),
+}
+
+impl From<AllocError> for StepFault {
+    ghost from_gives = { λ _ fault. fault ≡ Memory };
+
+    fn from(_: AllocError) -> StepFault {
+        StepFault::Memory
+    }
+}
+
+impl From<Refusal> for StepFault {
+    ghost from_gives = { λ refusal fault. fault ≡ Refused refusal };
+
+    fn from(refusal: Refusal) -> StepFault {
+        StepFault::Refused(refusal)
+    }
+}
+
+fn make(
+    alloc: Global,
+    nodes: &mut Vec<(NameList, Node)>,
+    path: &Path,
+    content: Content,
+) -> Result<Reply, StepFault>
+    ensures { Attempts nodes.old.items nodes.new.items result (make nodes.old.items path.now content) }
+{
+    if path.names().is_empty() {
+        return Err(StepFault::Refused(Refusal::Exists));
+    }
+    let above = walk(nodes, parent_names(path.names()))?;
+    if !is_directory(above) {
+        return Err(StepFault::Refused(Refusal::NotADirectory));
+    }
+    if find_node(nodes, path.names()).is_some() {
+        return Err(StepFault::Refused(Refusal::Exists));
+    }
+    let Some(number) = least_unused(nodes) else {
+        return Err(StepFault::Refused(Refusal::NoNumbers));
+    };
+    let at = copied(alloc, path.names())?;
+    let parent = copied(alloc, parent_names(path.names()))?;
+    nodes.reserve(2)?;
+    put(nodes, at, Node { number, content });
+    widen(nodes, parent);
+    Ok(Reply::Done)
+}
+
+fn write(
+    alloc: Global,
+    nodes: &mut Vec<(NameList, Node)>,
+    path: &Path,
+    offset: u64,
+    bytes: &[u8],
+) -> Result<Reply, StepFault>
+    ensures { Attempts nodes.old.items nodes.new.items result (write nodes.old.items path.now offset bytes.now) }
+{
+    let node = walk(nodes, path.names())?;
+    let Content::File(old) = &node.content else {
+        return Err(StepFault::Refused(Refusal::IsADirectory));
+    };
+    if offset.saturating_add(bytes.len() as u64) > 4_294_967_296 {
+        return Err(StepFault::Refused(Refusal::TooBig));
+    }
+    if bytes.is_empty() {
+        return Ok(Reply::Done);
+    }
+    let number = node.number;
+    let content = Content::File(file_bytes::written(alloc, old.as_slice(), offset, bytes)?);
+    let at = copied(alloc, path.names())?;
+    nodes.reserve(1)?;
+    put(nodes, at, Node { number, content });
+    Ok(Reply::Done)
+}
+
+fn truncate(
+    alloc: Global,
+    nodes: &mut Vec<(NameList, Node)>,
+    path: &Path,
+    size: u64,
+) -> Result<Reply, StepFault>
+    ensures { Attempts nodes.old.items nodes.new.items result (truncate nodes.old.items path.now size) }
+{
+    let node = walk(nodes, path.names())?;
+    let Content::File(old) = &node.content else {
+        return Err(StepFault::Refused(Refusal::IsADirectory));
+    };
+    if size > 4_294_967_296 {
+        return Err(StepFault::Refused(Refusal::TooBig));
+    }
+    let number = node.number;
+    let content = Content::File(file_bytes::resized(alloc, old.as_slice(), size)?);
+    let at = copied(alloc, path.names())?;
+    nodes.reserve(1)?;
+    put(nodes, at, Node { number, content });
+    Ok(Reply::Done)
+}
+
+// Whether a node is a directory with entries.
+fn is_full(nodes: &[(NameList, Node)], path: &[Name], node: &Node) -> bool
+    ensures { result ≡ (is_directory node.now && has_entries nodes.now path.now) }
+{
+    if !is_directory(node) {
+        return false;
+    }
+    entry_count(nodes, path) != 0
+}
+
+fn remove(nodes: &mut Vec<(NameList, Node)>, path: &Path) -> Result<Reply, StepFault>
+    ensures { Attempts nodes.old.items nodes.new.items result (remove nodes.old.items path.now) }
+{
+    let names = path.names();
+    let node = walk(nodes, names)?;
+    if names.is_empty() {
+        return Err(StepFault::Refused(Refusal::RootFixed));
+    }
+    if is_full(nodes, names, node) {
+        return Err(StepFault::Refused(Refusal::NotEmpty));
+    }
+    take_away(nodes, names);
+    Ok(Reply::Done)
+}
+
+fn new_path(
+    alloc: Global,
+    from: &[Name],
+    to: &[Name],
+    path: &[Name],
+) -> Result<NameList, AllocError>
+    ensures { IfOk result (λ new. new ≡ new_path from.now to.now path.now) }
+{
+    match strip(from, path) {
+        None => copied(alloc, path),
+        Some(rest) => joined(alloc, to, rest),
+    }
+}
+
+// The paths after a rename, in the order of the nodes.
+fn new_paths(
+    alloc: Global,
+    nodes: &[(NameList, Node)],
+    from: &[Name],
+    to: &[Name],
+) -> Result<Vec<NameList>, AllocError>
+    ensures { IfOk result (λ v. v.items ≡ map (λ e. new_path from.now to.now e.0) nodes.now) }
+{
+    let mut paths = Vec::new(alloc);
+    for (at, _) in nodes {
+        paths.push(new_path(alloc, from, to, at.as_slice())?)?;
+    }
+    Ok(paths)
+}
+
+// Each node moves to its new path. No bytes are copied and no memory is taken.
+fn move_all(
+    nodes: &mut Vec<(NameList, Node)>,
+    mut paths: Vec<NameList>,
+    new: &mut Vec<(NameList, Node)>,
+    from: &[Name],
+    to: &[Name],
+)
+    requires { (paths.items ≡ map (λ e. new_path from.now to.now e.0) nodes.old.items) × (new.old.items ≡ []) × (vec_len nodes.old < vec_capacity new.old) }
+    ensures moved { new.new.items ≡ moved from.now to.now nodes.old.items }
+    ensures room { vec_len new.new < vec_capacity new.new }
+{
+    while let Some(path) = paths.pop() {
+        let Some((_, node)) = nodes.pop() else {
+            return;
+        };
+        put(new, path, node);
+    }
+}
+
+fn rename(
+    alloc: Global,
+    nodes: &mut Vec<(NameList, Node)>,
+    from: &Path,
+    to: &Path,
+) -> Result<Reply, StepFault>
+    ensures { Attempts nodes.old.items nodes.new.items result (rename nodes.old.items from.now to.now) }
+{
+    walk(nodes, from.names())?;
+    if to.names().is_empty() {
+        return Err(StepFault::Refused(Refusal::Exists));
+    }
+    let above = walk(nodes, parent_names(to.names()))?;
+    if !is_directory(above) {
+        return Err(StepFault::Refused(Refusal::NotADirectory));
+    }
+    if find_node(nodes, to.names()).is_some() {
+        return Err(StepFault::Refused(Refusal::Exists));
+    }
+    if from.names().is_empty() {
+        return Err(StepFault::Refused(Refusal::RootFixed));
+    }
+    if strip(from.names(), to.names()).is_some() {
+        return Err(StepFault::Refused(Refusal::Inside));
+    }
+    move_below(alloc, nodes, from.names(), to.names())?;
+    Ok(Reply::Done)
+}
+
+// Moves a node and all below it, and widens the directory that it comes into.
+fn move_below(
+    alloc: Global,
+    nodes: &mut Vec<(NameList, Node)>,
+    from: &[Name],
+    to: &[Name],
+) -> Result<(), AllocError>
+    ensures ok { OnOk result (nodes.new.items ≡ widened (moved from.now to.now nodes.old.items) (parent_of to.now)) }
+    ensures err { OnErr result (nodes.new.items ≡ nodes.old.items) }
+{
+    let paths = new_paths(alloc, nodes, from, to)?;
+    let parent = copied(alloc, parent_names(to))?;
+    let mut new = Vec::new(alloc);
+    new.reserve(nodes.len() + 1)?;
+    move_all(nodes, paths, &mut new, from, to);
+    widen(&mut new, parent);
+    *nodes = new;
+    Ok(())
+}
+
+fn read(
+    alloc: Global,
+    nodes: &[(NameList, Node)],
+    path: &Path,
+    offset: u64,
+    length: u32,
+) -> Result<Reply, StepFault>
+    ensures { Attempts nodes.now nodes.now result (read nodes.now path.now offset length) }
+{
+    let node = walk(nodes, path.names())?;
+    match &node.content {
+        Content::Directory { .. } => Err(StepFault::Refused(Refusal::IsADirectory)),
+        Content::File(bytes) => {
+            let part = file_bytes::part(alloc, bytes.as_slice(), offset, length)?;
+            Ok(Reply::Data(part))
+        }
+    }
+}
+
+fn list(alloc: Global, nodes: &[(NameList, Node)], path: &Path) -> Result<Reply, StepFault>
+    ensures { Attempts nodes.now nodes.now result (list nodes.now path.now) }
+{
+    if !is_directory(walk(nodes, path.names())?) {
+        return Err(StepFault::Refused(Refusal::NotADirectory));
+    }
+    let entries = entries_of(alloc, nodes, path.names())?;
+    Ok(Reply::Entries(EntryList::from_vec(entries)))
+}
+
+fn size_of(nodes: &[(NameList, Node)], path: &[Name], content: &Content) -> u64
+    ensures { result ≡ size_of nodes.now path.now content.now }
+{
+    match content {
+        Content::File(bytes) => bytes.len() as u64,
+        Content::Directory { .. } => entry_count(nodes, path) as u64,
+    }
+}
+
+fn stat(nodes: &[(NameList, Node)], path: &Path) -> Result<Reply, StepFault>
+    ensures { Attempts nodes.now nodes.now result (stat nodes.now path.now) }
+{
+    let node = walk(nodes, path.names())?;
+    Ok(Reply::Stat {
+        kind: kind_of(&node.content),
+        number: node.number,
+        size: size_of(nodes, path.names(), &node.content),
+    })
+}
+
+/// Does a command of the tree, which leaves the nodes as they are where it is refused or wants memory.
+pub fn attempt(
+    alloc: Global,
+    nodes: &mut Vec<(NameList, Node)>,
+    command: &Command,
+) -> Result<Reply, StepFault>
+    requires { IsTrue (is_plain command.now) }
+    ensures { Attempts nodes.old.items nodes.new.items result (attempt nodes.old.items command.now) }
+{
+    match command {
+        Command::Mkdir { path } => make(alloc, nodes, path, Content::Directory { width: 0 }),
+        Command::Create { path } => {
+            let empty = Content::File(ByteList::new(alloc));
+            make(alloc, nodes, path, empty)
+        }
+        Command::Write {
+            path,
+            offset,
+            bytes,
+        } => write(alloc, nodes, path, *offset, bytes.as_slice()),
+        Command::Truncate { path, size } => truncate(alloc, nodes, path, *size),
+        Command::Remove { path } => remove(nodes, path),
+        Command::Rename { from, to } => rename(alloc, nodes, from, to),
+        Command::Read {
+            path,
+            offset,
+            length,
+        } => read(alloc, nodes, path, *offset, length.get()),
+        Command::List { path } => list(alloc, nodes, path),
+        Command::Stat { path } => stat(nodes, path),
+        Command::Layout { .. } | Command::Space | Command::Checkpoint | Command::End => {
+            unreachable!()
+        }
+    }
+}
