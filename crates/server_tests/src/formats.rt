@@ -135,7 +135,9 @@ fn ends_with_sink_failed(rt: HostRuntime) -> Result<(), Fail> {
         assert!(rt; ended.status == Status::SinkFailed);
         assert!(rt; ended.text.is_empty());
     }
-    assert!(rt; run_into(alloc, &mut media, rows[0], roomy(alloc, &[0])?)?.status == Status::SinkFailed);
+    assert!(rt;
+        run_into(alloc, &mut media, rows[0], roomy(alloc, &[0])?)?.status == Status::SinkFailed
+    );
     Ok(())
 }
 

@@ -75,7 +75,11 @@ pub(crate) fn serve_over(
 }
 
 /// A source that gives one byte for each call, and fails at these calls.
-pub(crate) fn source_of(alloc: Global, input: &[u8], fails: &[u64]) -> Result<MemSource, AllocError> {
+pub(crate) fn source_of(
+    alloc: Global,
+    input: &[u8],
+    fails: &[u64],
+) -> Result<MemSource, AllocError> {
     let bytes = ByteList::from_vec(input.to_vec(alloc)?);
     Ok(MemSource::new(bytes, 1, calls(alloc, fails)?))
 }
