@@ -1,58 +1,17 @@
 //! Runs of `format`.
-use command_server::{MemSink, MemSource, Status, run};
+use crate::runs::{block_at, calls, roomy, run_into, run_over};
+use command_server::{MemSink, Status};
 use disk_model::{Disk, Media, MemDisk, MemMedia};
 use std::alloc::{AllocError, Global};
 use std::test::Fail;
-use vol_numbers::{Block, BlockNo, ByteList, CallList};
-
-const ROOM: usize = 100;
+use vol_numbers::CallList;
 
 const USAGE: &[u8] = b"usage: idedup ACTION IMAGE [options]\n";
-
-/// How a run ended, and what it wrote.
-#[derive(Drop)]
-struct Ended {
-    status: Status,
-    text: Vec<u8>,
-}
-
-fn run_over(alloc: Global, media: &mut MemMedia, words: &[&str]) -> Result<Ended, AllocError> {
-    run_into(
-        alloc,
-        media,
-        words,
-        MemSink::new(alloc, ROOM, CallList::new(alloc))?,
-    )
-}
-
-fn run_into(
-    alloc: Global,
-    media: &mut MemMedia,
-    words: &[&str],
-    mut sink: MemSink,
-) -> Result<Ended, AllocError> {
-    let mut source = MemSource::new(ByteList::new(alloc), 1, CallList::new(alloc));
-    let status = run(alloc, words, media, &mut source, &mut sink);
-    let text = sink.bytes().to_vec(alloc)?;
-    Ok(Ended { status, text })
-}
-
-/// The block of the open image, where there is one.
-fn block_at(media: &mut MemMedia, at: BlockNo) -> Option<Block> {
-    if at >= media.blocks() {
-        return None;
-    }
-    let mut block = Block::zero();
-    media.read_block(at, &mut block).ok()?;
-    Some(block)
-}
 
 /// A medium with an image `v` of no blocks, whose device fails at one call.
 fn failing_at(alloc: Global, call: u64) -> Result<MemMedia, AllocError> {
     let mut disk = MemDisk::new(alloc, 0)?;
-    let mut fails = Vec::new(alloc);
-    fails.push(call)?;
-    disk.plan(CallList::from_vec(fails), None, 7);
+    disk.plan(calls(alloc, &[call])?, None, 7);
     let mut media = MemMedia::new(alloc);
     media.add("v", disk)?;
     Ok(media)
@@ -165,8 +124,6 @@ fn ends_with_device_at_each_call_that_fails(rt: HostRuntime) -> Result<(), Fail>
 #[test]
 fn ends_with_sink_failed(rt: HostRuntime) -> Result<(), Fail> {
     let alloc = rt.alloc();
-    let mut fails = Vec::new(alloc);
-    fails.push(0)?;
     let rows: [&[&str]; 2] = [
         &["format", "v", "--blocks", "165", "--log", "64"],
         &["serve"],
@@ -178,8 +135,9 @@ fn ends_with_sink_failed(rt: HostRuntime) -> Result<(), Fail> {
         assert!(rt; ended.status == Status::SinkFailed);
         assert!(rt; ended.text.is_empty());
     }
-    let failing = MemSink::new(alloc, ROOM, CallList::from_vec(fails))?;
-    assert!(rt; run_into(alloc, &mut media, rows[0], failing)?.status == Status::SinkFailed);
+    assert!(rt;
+        run_into(alloc, &mut media, rows[0], roomy(alloc, &[0])?)?.status == Status::SinkFailed
+    );
     Ok(())
 }
 

@@ -2,4 +2,12 @@
 #![tactic(auto)]
 
 #[cfg(test)]
+mod cuts;
+#[cfg(test)]
+mod findings;
+#[cfg(test)]
 mod formats;
+#[cfg(test)]
+mod runs;
+#[cfg(test)]
+mod sessions;
