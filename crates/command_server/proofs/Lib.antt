@@ -1,6 +1,7 @@
 pub mod AnswerLemmas
 pub mod AppendLemmas
 pub mod BlockLemmas
+pub mod FindingLemmas
 pub mod FormatLemmas
 pub mod FreshLemmas
 pub mod ImageLaws

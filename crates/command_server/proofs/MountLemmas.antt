@@ -64,11 +64,11 @@ slice_get-take (suc n) zero (x ∷ xs) lt = refl
 slice_get-take (suc n) (suc i) (x ∷ xs) lt = slice_get-take n i xs (omega (arith, lt))
 
 -- the block of the log at an index that is in use
-log_item : (image : List Block) (i : ℕ) → i < used_in image → slice_get (log_in image) i ≡ slice_get image (log_start (layout_in image) + i)
+pub log_item : (image : List Block) (i : ℕ) → i < used_in image → slice_get (log_in image) i ≡ slice_get image (log_start (layout_in image) + i)
 log_item image i lt = slice_get-take (used_in image) i (drop (log_start (layout_in image)) image) lt ∙ slice_get-drop (log_start (layout_in image)) i image
 
 -- there is an item at each index below the length
-item_at : {X : Type 0} (xs : List X) (i : ℕ) → i < length xs → (x : X) × (slice_get xs i ≡ Some x)
+pub item_at : {X : Type 0} (xs : List X) (i : ℕ) → i < length xs → (x : X) × (slice_get xs i ≡ Some x)
 item_at [] i lt = absurd (omega arith)
 item_at (x ∷ xs) zero lt = (x, refl)
 item_at (x ∷ xs) (suc i) lt = item_at xs i (omega arith)

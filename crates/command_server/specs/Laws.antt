@@ -4,7 +4,9 @@ use Rattle.vol_numbers.specs.declared.block.Block.{Block}
 use Rattle.vol_numbers.specs.Layout.{Layout, IsValid, log_start}
 use Rattle.disk_model.specs.Disk.{State, IsImage, is_among}
 use Rattle.root_switch.specs.Current.{current_slot, root_of_image, HasRoot, FitsImage}
+use Rattle.command_server.specs.Finding.{Finds}
 use Rattle.command_server.specs.Record.{IsRecord}
+use Rattle.command_server.specs.declared.finding.Finding.{Finding}
 use Rattle.command_server.specs.Tree.{has_name, and_name}
 use Rattle.command_server.specs.Fresh.{IsFresh}
 use Rattle.command_server.specs.Image.{Stands, IsLive, KeepsLive, layout_in, records_in, used_in}
@@ -45,6 +47,10 @@ pub record HasNext (old new : List Block) (name : List ℕ) : Type 0 where
 
 abbrev pub NextStands : Type 0
 NextStands = (old new : List Block) (name : List ℕ) (names : List (List ℕ)) → HasNext old new name → Stands old names → has_name names name ≡ false → Stands new (and_name names name)
+
+-- an image in which something is found stands for nothing
+abbrev pub FindsNothing : Type 0
+FindsNothing = (image : List Block) (finding : Finding) (names : List (List ℕ)) → Finds image finding → ¬ Stands image names
 
 -- what a format leaves stands for no files
 abbrev pub FreshStands : Type 0

@@ -25,8 +25,8 @@ mod words;
 
 pub use formatting::format;
 pub use meaning::{
-    acknowledged_stay, fresh_stands, images_stand, kept_meaning, next_stands, one_meaning,
-    one_spelling,
+    acknowledged_stay, found_stands_for_nothing, fresh_stands, images_stand, kept_meaning,
+    next_stands, one_meaning, one_spelling,
 };
 pub use mem_sink::MemSink;
 pub use mem_source::MemSource;

@@ -1,6 +1,6 @@
 //! Laws of what an image stands for. Whatever carries images from one state to the next rests on these alone.
 ghost use Rattle.command_server.specs.Staying.{AcknowledgedStay};
-ghost use Rattle.command_server.specs.Laws.{OneMeaning, KeptMeaning, ImagesStand, NextStands, OneSpelling, FreshStands};
+ghost use Rattle.command_server.specs.Laws.{OneMeaning, KeptMeaning, ImagesStand, NextStands, OneSpelling, FreshStands, FindsNothing};
 
 /// An image stands for one list of files at most.
 pub fn one_meaning()
@@ -25,6 +25,11 @@ pub fn next_stands()
 /// Each name has one record, and each record one name.
 pub fn one_spelling()
     ensures { OneSpelling }
+{}
+
+/// An image in which a mount finds something stands for nothing.
+pub fn found_stands_for_nothing()
+    ensures { FindsNothing }
 {}
 
 /// A volume as a format leaves it stands for no files.
