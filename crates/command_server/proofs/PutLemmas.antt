@@ -1,5 +1,5 @@
 -- What is put of a text, from the clauses of a call.
-use Rattle.std.proofs.Common.{◌≡◌, ℕ, List, Result, Ok, Err, refl, subst}
+use Rattle.std.proofs.Common.{◌≡◌, ℕ, List, Result, Ok, Err, subst}
 use Rattle.std.specs.Prelude.{OnOk, OnErr}
 use Rattle.command_server.specs.Ends.{Output, Puts, PutsPart}
 use Rattle.command_server.specs.Putting.{PutsText}

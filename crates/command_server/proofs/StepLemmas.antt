@@ -1,5 +1,5 @@
 -- What one command makes of a session.
-use Rattle.std.proofs.Common.{◌≡◌, ◌≢◌, ℕ, ◌≤◌, Bool, false, List, [], ◌∷◌, ◌++◌, length, take, Option, Some, Err, IsTrue, refl, sym, ◌∙◌, ap, subst, inl, arith, append_assoc}
+use Rattle.std.proofs.Common.{◌≡◌, ◌≢◌, ℕ, Bool, false, List, [], ◌∷◌, ◌++◌, length, take, Option, Some, Err, IsTrue, refl, sym, ◌∙◌, ap, subst, inl, arith, append_assoc}
 use Rattle.std.proofs.lemmas.List.{append-nil, take_all}
 use Rattle.disk_model.specs.Disk.{State, EachImage, is_among}
 use Rattle.disk_model.specs.Past.{Past, Adds}

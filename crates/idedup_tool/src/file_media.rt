@@ -125,18 +125,11 @@ impl<R: Files<File = File>> Media for FileMedia<R> {
     fn open(&mut self, name: &str, blocks: Option<u32>) -> Result<(), OpenFault> {
         match self.reopen(name, blocks) {
             Ok(()) => Ok(()),
-            Err(error) => {
+            Err(error) if error.kind() == io::ErrorKind::OutOfMemory => Err(OpenFault::OutOfMemory),
+            Err(_) => {
                 self.faults.raise();
-                Err(fault_of(&error))
+                Err(OpenFault::Failed)
             }
         }
-    }
-}
-
-fn fault_of(error: &io::Error) -> OpenFault {
-    if error.kind() == io::ErrorKind::OutOfMemory {
-        OpenFault::OutOfMemory
-    } else {
-        OpenFault::Failed
     }
 }

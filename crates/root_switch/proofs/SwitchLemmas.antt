@@ -3,7 +3,7 @@ use Rattle.std.proofs.Common.{◌≡◌, ◌≢◌, ◌⊎◌, inl, inr, ⊎_eli
 use Rattle.std.specs.Prelude.{slice_get, slice_set, slice_index, option_map, unwrap_or}
 use Rattle.std.proofs.lemmas.List.{length-set}
 use Rattle.vol_numbers.specs.declared.block.Block.{Block}
-use Rattle.disk_model.specs.Disk.{State, is_among, written, synced, IsImage, EachImage, DuringWrite}
+use Rattle.disk_model.specs.Disk.{State, is_among, written, synced, EachImage, DuringWrite}
 use Rattle.disk_model.proofs.Moments.{kept_in_image, image_unsynced, slice_get-set_same, slice_get-set_other}
 use Rattle.root_switch.specs.Current.{current_slot, current_root}
 use Rattle.root_switch.specs.Switch.{IsCurrent, OldOrNew, IsSwitched, spelled_root}

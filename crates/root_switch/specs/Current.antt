@@ -1,5 +1,5 @@
 -- Which of the two root slots is current, and the root that it has.
-use Rattle.std.specs.Prelude.{◌≡◌, ◌≤◌, ◌+◌, ◌%◌, ℕ, List, length, slice_get, slice_index, Option, option_map, unwrap_or, get_or}
+use Rattle.std.specs.Prelude.{◌≡◌, ◌≤◌, ◌+◌, ◌%◌, ℕ, List, length, slice_get, slice_index, Option, option_map, unwrap_or}
 use Rattle.vol_numbers.specs.Block.{zero_block}
 use Rattle.vol_numbers.specs.declared.block.Block.{Block}
 use Rattle.root_switch.specs.Root.{Root, root_in, HasShape, HasGeometry}

@@ -1,4 +1,4 @@
-use Rattle.std.proofs.Common.{◌≡◌, ◌<◌, ◌≤◌, ◌+◌, ◌*◌, ℕ, IsTrue}
+use Rattle.std.proofs.Common.{◌≡◌, ◌<◌, ◌+◌, ◌*◌, ℕ, IsTrue}
 use Rattle.std.specs.Prelude.{slice_get, Some}
 use Rattle.vol_numbers.specs.Geometry.{layout_of}
 use Rattle.disk_model.specs.Past.{Adds}

@@ -1,4 +1,4 @@
-use Rattle.std.proofs.Common.{◌≡◌, ◌≤◌, [], length, take, IsTrue}
+use Rattle.std.proofs.Common.{◌≡◌, [], length, take, IsTrue}
 use Rattle.disk_model.specs.Past.{Adds}
 use Rattle.command_server.specs.Tree.{AddsEach}
 use Rattle.command_server.specs.Image.{Spells, log_in}

@@ -1,4 +1,4 @@
-use Rattle.std.proofs.Common.{◌∙◌, inl, inr, refl, sym, ap, subst, arith, Option}
+use Rattle.std.proofs.Common.{◌∙◌, inl, inr, refl, sym, ap, subst, Option}
 use Rattle.std.specs.Prelude.{IsSomeAnd}
 use Rattle.disk_model.specs.Disk.{State}
 use Rattle.disk_model.specs.Media.{Fixed, image_named}

@@ -1,6 +1,5 @@
 use Rattle.std.proofs.Common.{◌≡◌, ◌∙◌, ◌+◌, ◌≤◌, length, sym, ap, subst, arith}
 use Rattle.std.specs.Prelude.{slice_get, IfSome}
-use Rattle.vol_numbers.specs.declared.block.Block.{Block}
 use Rattle.disk_model.specs.Disk.{State}
 use Rattle.disk_model.specs.Media.{Fixed}
 use Rattle.root_switch.specs.Root.{Root, root_of, root_in, HasGeometry, SpellsRoot}

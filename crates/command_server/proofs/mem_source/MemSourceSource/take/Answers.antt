@@ -1,4 +1,4 @@
-use Rattle.std.proofs.Common.{◌≡◌, ◌∙◌, ◌++◌, ap, sym, take, drop, List, ℕ, arith}
+use Rattle.std.proofs.Common.{◌≡◌, ◌∙◌, ◌++◌, ap, sym, take, drop, List, ℕ}
 use Rattle.std.proofs.lemmas.List.{take-append-drop, drop-drop}
 use Rattle.command_server.proofs.mem_source.MemSourceSource.take.Goals as goal
 
