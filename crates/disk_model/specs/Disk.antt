@@ -1,7 +1,7 @@
 -- What a disk holds, what a power cut may leave of it, and what its calls do.
 use Rattle.std.specs.Prelude.{◌≡◌, ◌≤◌, ◌⊎◌, ◌==◌, ◌||◌, nat_lt, if◌then◌else◌, ℕ, Bool, false, List, [], ◌∷◌, length, replicate, slice_get, slice_set}
 use Rattle.vol_numbers.specs.Block.{zero_block}
-use Rattle.vol_numbers.specs.Cause.{Rose}
+use Rattle.vol_numbers.specs.Cause.{raised}
 use Rattle.vol_numbers.specs.declared.block.Block.{Block}
 use Rattle.disk_model.specs.declared.pick.Pick.{Pick}
 
@@ -69,5 +69,4 @@ pub record Given : Type 0 where
 pub record Gives (old new : Given) (at : ℕ) (block : Block) : Type 0 where
   pub number : new.at ≡ at
   pub bytes : new.block ≡ block
-  pub never_falls : old.count ≤ new.count
-  pub rose : Rose old.count new.count
+  pub counted : new.count ≡ raised old.count
