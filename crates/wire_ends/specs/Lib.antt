@@ -1,0 +1,5 @@
+pub mod Counting
+pub mod Ends
+pub mod Laws
+pub mod Memory
+pub mod Std
