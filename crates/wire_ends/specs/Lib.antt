@@ -1,4 +1,3 @@
-pub mod Counting
 pub mod Ends
 pub mod Laws
 pub mod Memory

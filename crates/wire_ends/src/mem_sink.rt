@@ -1,7 +1,6 @@
 //! A sink in memory.
 ghost use Rattle.std.specs.Prelude.{◌≡◌, ◌<◌, ◌+◌, ◌⊎◌, [], length, true, Contains, IfOk, OnOk, OnErr, IsErr, ◌↔◌};
-ghost use Rattle.vol_numbers.specs.Cause.{raised};
-ghost use Rattle.wire_ends.specs.Counting.{HasCause};
+ghost use Rattle.vol_numbers.specs.Cause.{raised, HasCause};
 
 use crate::{Sink, SinkFault};
 use std::alloc::{AllocError, Global};

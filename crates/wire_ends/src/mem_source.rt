@@ -1,7 +1,6 @@
 //! A source in memory.
 ghost use Rattle.std.specs.Prelude.{◌≡◌, ◌<◌, ◌≤◌, ◌+◌, [], take, drop, min, length, true, Contains, IfOk, OnErr, IsErr, IsTrue, ◌↔◌};
-ghost use Rattle.vol_numbers.specs.Cause.{raised};
-ghost use Rattle.wire_ends.specs.Counting.{HasCause};
+ghost use Rattle.vol_numbers.specs.Cause.{raised, HasCause};
 
 use crate::{Source, SourceFault};
 use std::marker::Model;

@@ -1,6 +1,6 @@
 //! The trait of a sink: where the answers of a session go.
 ghost use Rattle.std.specs.Prelude.{OnOk, OnErr};
-ghost use Rattle.wire_ends.specs.Counting.{HasCause};
+ghost use Rattle.vol_numbers.specs.Cause.{HasCause};
 ghost use Rattle.wire_ends.specs.Ends.{Output, Puts, PutsPart};
 
 use thiserror::Error;

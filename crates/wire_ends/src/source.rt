@@ -1,6 +1,6 @@
 //! The trait of a source: where the bytes of a session come from.
 ghost use Rattle.std.specs.Prelude.{◌≡◌, ◌<◌, ◌≤◌, [], take, length, IfOk, OnErr, IsTrue};
-ghost use Rattle.wire_ends.specs.Counting.{HasCause};
+ghost use Rattle.vol_numbers.specs.Cause.{HasCause};
 ghost use Rattle.wire_ends.specs.Ends.{Input, Takes};
 
 use thiserror::Error;
