@@ -24,6 +24,20 @@ impl<W: Write> StdSink<W> {
             faults: FaultCount::new(),
         }
     }
+
+    /// The writer, which holds what was put.
+    pub fn writer(&self) -> &W
+        ensures { ⟦<StdSink<W> as Sink>⟧.seen self.now ≡ output_of (W.contents result.now) (⟦<StdSink<W> as Sink>⟧.seen self.now).faults }
+    {
+        &self.writer
+    }
+
+    /// How often it has failed.
+    pub fn faults(&self) -> FaultCount
+        ensures { result ≡ (⟦<StdSink<W> as Sink>⟧.seen self.now).faults }
+    {
+        self.faults
+    }
 }
 
 /// Has a writer take some of the bytes, at least one.

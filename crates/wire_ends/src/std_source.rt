@@ -23,6 +23,13 @@ impl<R: Read> StdSource<R> {
             faults: FaultCount::new(),
         }
     }
+
+    /// How often it has failed.
+    pub fn faults(&self) -> FaultCount
+        ensures { result ≡ (⟦<StdSource<R> as Source>⟧.seen self.now).faults }
+    {
+        self.faults
+    }
 }
 
 impl<R: Read> Source for StdSource<R> {
