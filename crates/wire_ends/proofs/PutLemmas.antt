@@ -1,6 +1,6 @@
 -- What is put in several calls.
-use Rattle.std.proofs.Common.{◌∙◌, ◌≡◌, ◌≤◌, ◌+◌, ◌++◌, ℕ, List, [], length, min, take, refl, sym, ap, subst, append_assoc, arith}
-use Rattle.std.proofs.lemmas.List.{append-nil, take-append-le, take_all, take_min, length-take}
+use Rattle.std.proofs.Common.{◌∙◌, ◌+◌, ◌++◌, ℕ, List, [], length, min, sym, ap, subst, append_assoc, arith}
+use Rattle.std.proofs.lemmas.List.{append-nil, take-append-le, take_all, take_min}
 use Rattle.std.proofs.Math.Seq.{take-append-add}
 use Rattle.wire_ends.specs.Ends.{Output, Puts, PutsPart}
 
