@@ -1,0 +1,3 @@
+mod KnownLemmas
+pub mod PutLemmas
+pub mod TakeLemmas
