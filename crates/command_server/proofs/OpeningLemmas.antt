@@ -8,7 +8,7 @@ use Rattle.disk_model.specs.Past.{Past, Adds}
 use Rattle.disk_model.proofs.Moments.{adds_then, adds_weaker, image_unsynced}
 use Rattle.root_switch.specs.Current.{root_of_image}
 use Rattle.root_switch.specs.Root.{Root}
-use Rattle.command_server.specs.Ends.{Output}
+use Rattle.wire_ends.specs.Ends.{Output}
 use Rattle.command_server.specs.Fits.{Fits}
 use Rattle.command_server.specs.Image.{Stands}
 use Rattle.command_server.specs.Lines.{Text}
@@ -19,7 +19,8 @@ use Rattle.command_server.specs.declared.finding.Finding.{Finding}
 use Rattle.command_server.specs.declared.status.Status.{Status}
 use Rattle.command_server.specs.declared.status.Status.TheVariants.{Done, Usage, BadVolume, Device, SourceFailed, SinkFailed, NoMemory, BadStream, Budget}
 use Rattle.command_server.proofs.SessionLemmas.{session_then}
-use Rattle.command_server.proofs.StepLemmas.{all_stand, puts_none}
+use Rattle.command_server.proofs.StepLemmas.{all_stand}
+use Rattle.wire_ends.proofs.PutLemmas.{puts_none}
 
 no_more_during : (s r : State) → DuringSync s r → HasNoMore s r
 no_more_during s r during image im = ⊎_elim (λ e. subst (λ (m : State). IsImage m image) e im) (λ e. image_unsynced s image (subst (λ (m : State). IsImage m image) e im)) during

@@ -1,7 +1,7 @@
 -- What is put of a text, from the clauses of a call.
 use Rattle.std.proofs.Common.{◌≡◌, ℕ, List, Result, Ok, Err, subst}
 use Rattle.std.specs.Prelude.{OnOk, OnErr}
-use Rattle.command_server.specs.Ends.{Output, Puts, PutsPart}
+use Rattle.wire_ends.specs.Ends.{Output, Puts, PutsPart}
 use Rattle.command_server.specs.Putting.{PutsText}
 
 pub puts_text : {T E : Type 0} (old new : Output) (bytes text : List ℕ) (r : Result T E) → bytes ≡ text

@@ -7,7 +7,8 @@ use Rattle.vol_numbers.specs.declared.block.Block.{Block}
 use Rattle.disk_model.specs.Disk.{State, EachImage}
 use Rattle.disk_model.specs.Past.{Adds}
 use Rattle.disk_model.proofs.Moments.{adds_then, adds_weaker}
-use Rattle.command_server.specs.Ends.{Output, Puts}
+use Rattle.wire_ends.specs.Ends.{Puts}
+use Rattle.wire_ends.proofs.PutLemmas.{puts_both}
 use Rattle.command_server.specs.Image.{Stands}
 use Rattle.command_server.specs.Lines.{Text, Reads, text_of, texts_of}
 use Rattle.command_server.specs.Step.{added, after}
@@ -49,12 +50,6 @@ added_then room names (c ∷ cs) [] ds ps one = absurd one
 
 outcomes_then : (one two : List Answer) (l : List Outcome) → map Ok (one ++ two) ++ l ≡ map Ok one ++ (map Ok two ++ l)
 outcomes_then one two l = ap (λ (os : List Outcome). os ++ l) (map-append Ok one two) ∙ append_assoc (map Ok one) (map Ok two) l
-
-pub puts_then : {a b c : Output} {xs ys : List ℕ} → Puts a b xs → Puts b c ys → Puts a c (xs ++ ys)
-puts_then {a = a} {xs = xs} {ys = ys} one two = record {
-  told = λ told. two.told (one.told told);
-  appended = λ told. two.appended (one.told told) ∙ ap (λ (l : List ℕ). l ++ ys) (one.appended told) ∙ append_assoc a.got xs ys;
-}
 
 -- what stands for some of the first files
 earlier : (start a b : List (List ℕ)) (image : List Block) → StandsForPrefix start 0 a image → StandsForPrefix start 0 (a ++ b) image
@@ -151,7 +146,7 @@ module _ {room : ℕ} {tells : Bool} {old mid new : Point} {ended : Option Statu
     read = reads_then old.text mid.text two.rest one.commands two.commands (subst (λ (t : Text). Reads old.text one.commands t) one.ends.1 one.read) two.read;
     legal = subst (λ (os : List Outcome). Run room old.names (one.commands ++ two.commands) os) (sym outcomes)
         (run_then room old.names one.commands whole two.commands outcomes_two run_one (subst (λ (n : List (List ℕ)). Run room n two.commands outcomes_two) names_mid two.legal));
-    put = subst (λ (l : List ℕ). Puts old.sink new.sink l) (sym texts_are) (puts_then put_one two.put);
+    put = subst (λ (l : List ℕ). Puts old.sink new.sink l) (sym texts_are) (puts_both put_one two.put);
     ends = ends_earlier ended old mid new two.rest two.last two.ends;
     names = λ none. two.names none ∙ ap (λ (n : List (List ℕ)). after (all_added room n two.commands (map Ok two.answers)) n) names_mid ∙ sym (after_then added_one _ old.names)
         ∙ ap (λ (l : List (List ℕ)). after l old.names) (sym acknowledged);

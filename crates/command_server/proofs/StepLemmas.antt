@@ -5,7 +5,8 @@ use Rattle.disk_model.specs.Disk.{State, EachImage, is_among}
 use Rattle.disk_model.specs.Past.{Past, Adds}
 use Rattle.disk_model.proofs.Moments.{adds_none, adds_weaker}
 use Rattle.root_switch.specs.Root.{Root}
-use Rattle.command_server.specs.Ends.{Output, Puts}
+use Rattle.wire_ends.specs.Ends.{Output, Puts}
+use Rattle.wire_ends.proofs.PutLemmas.{puts_none}
 use Rattle.command_server.specs.Fits.{Fits, StandsForSome}
 use Rattle.command_server.specs.Image.{Stands}
 use Rattle.command_server.specs.Lines.{Text, first, is_end, text_of}
@@ -31,9 +32,6 @@ fits_image {names = names} {s = s} fits image is = kept_stands s.contents image 
 pub after_is : (more names : List (List ℕ)) → after more names ≡ names ++ more
 after_is [] names = sym (append-nil names)
 after_is (x ∷ xs) names = after_is xs (and_name names x) ∙ append_assoc names (x ∷ []) xs
-
-pub puts_none : (sink : Output) → Puts sink sink []
-puts_none sink = record { told = λ told. told; appended = λ told. sym (append-nil sink.got) }
 
 -- each image stands for the files that the volume has
 pub all_stand : {slot : ℕ} {root : Root} {names start made : List (List ℕ)} {s : State} → Fits slot root names s → names ≡ after made start → EachImage (StandsForPrefix start (length made) made) s

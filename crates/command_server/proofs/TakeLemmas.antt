@@ -1,14 +1,8 @@
 -- What is taken in two steps.
-use Rattle.std.proofs.Common.{◌∙◌, ◌≤◌, ◌-◌, ◌++◌, ℕ, List, length, sym, ap, append_assoc, length-append, arith}
-use Rattle.command_server.specs.Ends.{Input, Takes}
+use Rattle.std.proofs.Common.{◌≤◌, ◌-◌, ◌++◌, ℕ, List, length, length-append, arith}
+use Rattle.wire_ends.specs.Ends.{Input, Takes}
+use Rattle.wire_ends.proofs.TakeLemmas.{takes_both}
 use Rattle.command_server.specs.Taking.{TakesAtMost}
-
--- Two pieces in a row are one.
-pub takes_both : {old mid new : Input} {first second : List ℕ} → Takes old mid first → Takes mid new second → Takes old new (first ++ second)
-takes_both {old} {mid} {new} {first} {second} one two = record {
-  told = λ told. two.told (one.told told);
-  next = λ told. one.next told ∙ ap (λ (l : List ℕ). first ++ l) (two.next (one.told told)) ∙ sym (append_assoc first second new.left);
-}
 
 -- at most so many with those that were taken before
 pub takes_at_most : {old mid new : Input} (before : List ℕ) (most : ℕ) → Takes old mid before → length before ≤ most

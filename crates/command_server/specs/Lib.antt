@@ -1,6 +1,5 @@
 pub mod Asked
 pub mod Blocks
-pub mod Ends
 pub mod Faults
 pub mod Finding
 pub mod Fits
@@ -10,7 +9,6 @@ pub mod Image
 pub mod Laws
 pub mod Lines
 pub mod Lining
-pub mod MemEnds
 pub mod Mounting
 pub mod Putting
 pub mod Record

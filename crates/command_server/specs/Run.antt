@@ -3,7 +3,7 @@ use Rattle.std.specs.Prelude.{◌≡◌, ◌≢◌, ◌⊎◌, ◌-◌, ℕ, Lis
 use Rattle.vol_numbers.specs.Layout.{area_size}
 use Rattle.disk_model.specs.Disk.{State}
 use Rattle.disk_model.specs.Media.{Fixed, image_named}
-use Rattle.command_server.specs.Ends.{Output, Puts, PutsPart}
+use Rattle.wire_ends.specs.Ends.{Output, Puts, PutsPart}
 use Rattle.command_server.specs.Formatting.{IsFormatted}
 use Rattle.command_server.specs.Words.{Request, Format, Serve}
 use Rattle.command_server.specs.Texts.{usage_text, formatted_text}

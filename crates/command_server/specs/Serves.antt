@@ -4,7 +4,7 @@ use Rattle.vol_numbers.specs.declared.block.Block.{Block}
 use Rattle.disk_model.specs.Disk.{State, IsImage}
 use Rattle.disk_model.specs.Media.{Fixed, image_named}
 use Rattle.disk_model.specs.Past.{Past, Adds}
-use Rattle.command_server.specs.Ends.{Input, Output, Takes, Puts, PutsPart}
+use Rattle.wire_ends.specs.Ends.{Input, Output, Takes, Puts, PutsPart}
 use Rattle.command_server.specs.Finding.{Finds}
 use Rattle.command_server.specs.Image.{Stands, layout_in}
 use Rattle.command_server.specs.Serving.{text_in, no_text}

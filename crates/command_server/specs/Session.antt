@@ -3,7 +3,7 @@ use Rattle.std.specs.Prelude.{◌≡◌, ◌≢◌, ◌⊎◌, ◌≤◌, ◌++�
 use Rattle.vol_numbers.specs.declared.block.Block.{Block}
 use Rattle.disk_model.specs.Disk.{State, IsImage, EachImage}
 use Rattle.disk_model.specs.Past.{Past, Adds}
-use Rattle.command_server.specs.Ends.{Output, Puts}
+use Rattle.wire_ends.specs.Ends.{Output, Puts}
 use Rattle.command_server.specs.Image.{Stands}
 use Rattle.command_server.specs.Lines.{Text, first, Reads, text_of, texts_of}
 use Rattle.command_server.specs.Lines.First.{Ended, Bad}

@@ -1,6 +1,6 @@
 -- What is taken of a source, piece by piece.
 use Rattle.std.specs.Prelude.{◌≡◌, ◌≤◌, ◌++◌, ℕ, List, length}
-use Rattle.command_server.specs.Ends.{Input, Takes}
+use Rattle.wire_ends.specs.Ends.{Input, Takes}
 
 -- A piece of so many bytes was taken. It stands behind the bytes before it.
 pub record TakesPiece (old new : Input) (before after : List ℕ) (count : ℕ) : Type 0 where

@@ -1,11 +1,11 @@
 //! The input of a session, which is taken whole before its first line is answered.
 ghost use Rattle.std.specs.Prelude.{◌≡◌, ◌<◌, ◌≤◌, ◌-◌, [], length, IfOk, IsErrOf, IsTrue};
 ghost use Rattle.vol_numbers.specs.Cause.{raised};
-ghost use Rattle.command_server.specs.Ends.{Takes};
+ghost use Rattle.wire_ends.specs.Ends.{Takes};
 ghost use Rattle.command_server.specs.Taking.{TakesPiece, TakesCount, TakesAtMost};
 
-use crate::{Source, SourceFault};
 use std::alloc::{AllocError, Global};
+use wire_ends::{Source, SourceFault};
 
 /// The input wasn't taken.
 #[derive(Clone, Copy, Debug, PartialEq, Eq)]

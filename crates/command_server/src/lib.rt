@@ -8,8 +8,6 @@ mod fresh;
 mod input;
 mod lines;
 mod meaning;
-mod mem_sink;
-mod mem_source;
 mod mounting;
 mod names;
 mod opening;
@@ -17,8 +15,6 @@ mod record;
 mod reply;
 mod running;
 mod serving;
-mod sink;
-mod source;
 mod status;
 mod volume;
 mod words;
@@ -28,10 +24,6 @@ pub use meaning::{
     acknowledged_stay, found_stands_for_nothing, fresh_stands, images_stand, kept_meaning,
     next_stands, one_meaning, one_spelling,
 };
-pub use mem_sink::MemSink;
-pub use mem_source::MemSource;
 pub use reply::texts_tell_answers;
 pub use running::run;
-pub use sink::{Sink, SinkFault};
-pub use source::{Source, SourceFault};
 pub use status::Status;

@@ -6,15 +6,16 @@ ghost use Rattle.command_server.specs.Faults.{device_faults, source_faults, sink
 ghost use Rattle.command_server.specs.Fits.{Fits};
 ghost use Rattle.command_server.specs.Serves.{Serves, UntakenHere, Answered, TellsFinding, ends_of};
 
+use crate::Status;
 use crate::finding::Finding;
 use crate::input::{InputFault, read_input};
 use crate::mounting::{MountFault, mount};
 use crate::reply::put_finding;
 use crate::serving::serve;
 use crate::volume::LogVolume;
-use crate::{Sink, SinkFault, Source, Status};
 use disk_model::{Disk, Media, OpenFault};
 use std::alloc::Global;
+use wire_ends::{Sink, SinkFault, Source};
 
 /// Opens an image, mounts its volume, takes the input and answers it.
 pub(crate) fn serve_image<M: Media, R: Source, W: Sink>(

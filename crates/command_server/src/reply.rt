@@ -7,9 +7,9 @@ ghost use Rattle.command_server.specs.Putting.{PutsText};
 
 use crate::command::Answer;
 use crate::finding::Finding;
-use crate::{Sink, SinkFault};
 use arrayvec::ArrayString;
 use itoa::Buffer;
+use wire_ends::{Sink, SinkFault};
 
 /// Says how the program is called.
 pub(crate) fn put_usage<W: Sink>(sink: &mut W) -> Result<(), SinkFault>

@@ -14,10 +14,11 @@ ghost use Rattle.command_server.specs.declared.status.Status.TheVariants.{Done, 
 use crate::opening::serve_image;
 use crate::reply::{put_formatted, put_usage};
 use crate::words::{Request, read_words};
-use crate::{Sink, SinkFault, Source, Status, format};
+use crate::{Status, format};
 use disk_model::{DiskFault, Media, OpenFault};
 use std::alloc::Global;
 use vol_numbers::Geometry;
+use wire_ends::{Sink, SinkFault, Source};
 
 /// Does what the words after the program's name ask for, over an image of the media, and answers how it ended. The table of actions is in
 /// `docs/FORMAT.md`.

@@ -6,12 +6,13 @@ ghost use Rattle.command_server.specs.Fits.{Fits};
 ghost use Rattle.command_server.specs.Session.{Session, point};
 ghost use Rattle.command_server.specs.Serving.{ended_by, left_by, text_in, no_text};
 
+use crate::Status;
 use crate::command::{Command, Stopped};
 use crate::lines::{Line, first_line};
 use crate::reply::put_answer;
 use crate::volume::LogVolume;
-use crate::{Sink, SinkFault, Status};
 use disk_model::Disk;
+use wire_ends::{Sink, SinkFault};
 
 /// What became of one line: the session goes on with the text behind it, or ends.
 pub(crate) enum Served<'a> {

@@ -1,5 +1,5 @@
 -- What a disk holds, what a power cut may leave of it, and what its calls do.
-use Rattle.std.specs.Prelude.{◌≡◌, ◌≤◌, ◌⊎◌, ◌==◌, ◌||◌, nat_lt, if◌then◌else◌, ℕ, Bool, false, List, [], ◌∷◌, length, replicate, slice_get, slice_set}
+use Rattle.std.specs.Prelude.{◌≡◌, ◌⊎◌, ◌==◌, ◌||◌, nat_lt, if◌then◌else◌, ℕ, Bool, false, List, [], ◌∷◌, length, replicate, slice_get, slice_set}
 use Rattle.vol_numbers.specs.Block.{zero_block}
 use Rattle.vol_numbers.specs.Cause.{raised}
 use Rattle.vol_numbers.specs.declared.block.Block.{Block}

@@ -7,8 +7,6 @@ ghost use Rattle.command_server.specs.Status.{number_of};
 
 mod file_media;
 mod image;
-mod std_sink;
-mod std_source;
 #[cfg(test)]
 mod tests;
 mod words;
@@ -16,8 +14,7 @@ mod words;
 use command_server::{Status, run};
 use file_media::FileMedia;
 use std::process::ExitCode;
-use std_sink::StdSink;
-use std_source::StdSource;
+use wire_ends::{StdSink, StdSource};
 
 fn main(rt: HostRuntime) -> ExitCode {
     exit_code(run_words(&rt))

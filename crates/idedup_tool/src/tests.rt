@@ -1,10 +1,6 @@
-//! The files of the system, and the ends over std.
+//! The files of the system.
 use crate::file_media::FileMedia;
-use crate::std_sink::StdSink;
-use crate::std_source::StdSource;
-use command_server::{Sink, SinkFault, Source, SourceFault};
 use disk_model::{Disk, DiskFault, Media, OpenFault};
-use std::io::{Read, Write};
 use std::test::Fail;
 use std::{env, fs, io};
 use vol_numbers::{Block, FaultCount};
@@ -141,117 +137,5 @@ fn only_regular_files_are_images(rt: HostRuntime) -> Result<(), Fail> {
     }
     assert!(rt; refuses(&mut media, "/dev/full", Some(1), 6));
     fs::remove_dir(&rt, path.as_str())?;
-    Ok(())
-}
-
-#[test]
-fn takes_pieces(rt: HostRuntime) -> Result<(), Fail> {
-    let mut source = StdSource::new(b"abcde".as_slice());
-    let mut buf = [0; 3];
-    assert_eq!(rt; source.take(&mut buf), Ok(3));
-    assert_eq!(rt; buf, *b"abc");
-    assert_eq!(rt; source.take(&mut buf), Ok(2));
-    assert_eq!(rt; buf, *b"dec");
-    assert_eq!(rt; source.take(&mut buf), Ok(0));
-    assert_eq!(rt; source.faults, so_many(0));
-    Ok(())
-}
-
-/// Its second call fails.
-#[derive(Drop)]
-struct OnceBroken {
-    calls: u32,
-}
-
-impl Read for OnceBroken {
-    fn read(&mut self, buf: &mut [u8]) -> io::Result<usize> {
-        self.calls = self.calls.saturating_add(1);
-        if self.calls == 2 {
-            return Err(io::ErrorKind::BrokenPipe.into());
-        }
-        match buf.first_mut() {
-            Some(byte) => {
-                *byte = b'x';
-                Ok(1)
-            }
-            None => Ok(0),
-        }
-    }
-}
-
-#[test]
-fn counts_a_read_that_fails(rt: HostRuntime) -> Result<(), Fail> {
-    let mut source = StdSource::new(OnceBroken { calls: 0 });
-    let mut buf = [0; 3];
-    assert_eq!(rt; source.take(&mut buf), Ok(1));
-    assert_eq!(rt; source.take(&mut buf), Err(SourceFault));
-    assert_eq!(rt; source.take(&mut buf), Ok(1));
-    assert_eq!(rt; source.faults, so_many(1));
-    Ok(())
-}
-
-/// Takes at most so many bytes a call, fails where `room` would be passed, and counts its flushes.
-#[derive(Drop)]
-struct Narrow {
-    got: Vec<u8>,
-    most: usize,
-    room: usize,
-    flushes: u32,
-}
-
-impl Narrow {
-    fn new(rt: &HostRuntime, most: usize, room: usize) -> Narrow {
-        Narrow {
-            got: Vec::new(rt.alloc()),
-            most,
-            room,
-            flushes: 0,
-        }
-    }
-}
-
-impl Write for Narrow {
-    fn write(&mut self, buf: &[u8]) -> io::Result<usize> {
-        let count = buf.len().min(self.most);
-        if self.room < count {
-            return Err(io::ErrorKind::BrokenPipe.into());
-        }
-        self.got.extend_from_slice(&buf[..count])?;
-        self.room -= count;
-        Ok(count)
-    }
-
-    fn flush(&mut self) -> io::Result<()> {
-        self.flushes = self.flushes.saturating_add(1);
-        Ok(())
-    }
-}
-
-#[test]
-fn puts_all(rt: HostRuntime) -> Result<(), Fail> {
-    let mut whole = StdSink::new(Vec::new(rt.alloc()));
-    whole.put(b"abc")?;
-    whole.put(b"")?;
-    whole.put(b"de")?;
-    assert_eq!(rt; whole.writer.as_slice(), b"abcde".as_slice());
-    let mut sink = StdSink::new(Narrow::new(&rt, 3, 100));
-    sink.put(b"abcdefgh")?;
-    assert_eq!(rt; sink.writer.got.as_slice(), b"abcdefgh".as_slice());
-    assert_eq!(rt; sink.writer.flushes, 1);
-    assert_eq!(rt; sink.faults, so_many(0));
-    Ok(())
-}
-
-#[test]
-fn counts_a_write_that_fails(rt: HostRuntime) -> Result<(), Fail> {
-    let mut none = StdSink::new(Narrow::new(&rt, 0, 100));
-    none.put(b"")?;
-    assert_eq!(rt; none.put(b"abc"), Err(SinkFault));
-    assert_eq!(rt; none.faults, so_many(1));
-    let mut full = StdSink::new(Narrow::new(&rt, 3, 7));
-    assert_eq!(rt; full.put(b"abcdefgh"), Err(SinkFault));
-    assert_eq!(rt; full.put(b"xyz"), Err(SinkFault));
-    assert_eq!(rt; full.writer.got.as_slice(), b"abcdef".as_slice());
-    assert_eq!(rt; full.faults, so_many(2));
     Ok(())
 }

@@ -1,10 +1,11 @@
 //! Runs of `format`.
 use crate::runs::{block_at, calls, roomy, run_into, run_over};
-use command_server::{MemSink, Status};
+use command_server::Status;
 use disk_model::{Disk, Media, MemDisk, MemMedia};
 use std::alloc::{AllocError, Global};
 use std::test::Fail;
 use vol_numbers::CallList;
+use wire_ends::MemSink;
 
 const USAGE: &[u8] = b"usage: idedup ACTION IMAGE [options]\n";
 

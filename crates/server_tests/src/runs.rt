@@ -1,8 +1,9 @@
 //! Runs of the top call over media, a source and a sink in memory.
-use command_server::{MemSink, MemSource, Status, run};
+use command_server::{Status, run};
 use disk_model::{Disk, Media, MemMedia};
 use std::alloc::{AllocError, Global};
 use vol_numbers::{Block, BlockNo, ByteList, CallList};
+use wire_ends::{MemSink, MemSource};
 
 /// How many bytes the sinks have room for.
 pub(crate) const ROOM: usize = 100_000;

@@ -1,5 +1,5 @@
 use Rattle.std.proofs.Common.{◌≡◌, ◌≤◌, ◌-◌, ℕ, List, length}
-use Rattle.command_server.specs.Ends.{Input, Takes}
+use Rattle.wire_ends.specs.Ends.{Input, Takes}
 use Rattle.command_server.proofs.input.read_input.Given as goal
 
 -- what was taken so far

@@ -11,4 +11,4 @@ returns-clause-text g c =
     let counted : c.push_str-2.new.self.bytes ≡ name ++ c.format.result.now = c.push_str-2.ensures.bytes ∙ ap (λ (l : List ℕ). l ++ c.format.result.now) named in
     let line : c.as_bytes.result.now ≡ formatted_text c.args.free =
     c.as_bytes.ensures.value ∙ c.as_str.ensures.value ∙ c.push_str-3.ensures.bytes ∙ ap (λ (l : List ℕ). l ++ 10 ∷ []) (counted ∙ ap (λ (d : List ℕ). name ++ d) c.format.ensures.text) in
-    puts_text _ _ _ _ c.put.result line c.put.ensures.put c.put.ensures.part
+    puts_text _ _ _ _ c.put.result line c.put.ensures.whole c.put.ensures.part
