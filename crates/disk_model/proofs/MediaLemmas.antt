@@ -9,7 +9,8 @@ use Rattle.std.proofs.lemmas.Slice.Eq.{bytes_eq-Decides}
 use Rattle.std.proofs.lemmas.List.Quantifiers.{position-Some}
 use Rattle.disk_model.specs.Disk.{State}
 use Rattle.disk_model.specs.Past.{Past, Adds}
-use Rattle.disk_model.specs.Named.{find_named, state_of, later_by}
+use Rattle.disk_model.specs.Memory.{past_of}
+use Rattle.disk_model.specs.Named.{find_named, state_of, fixed_of, later_by, past_since}
 use Rattle.disk_model.specs.Lending.{with_named, with_other, SetsImage}
 use Rattle.disk_model.specs.Media.{is_name_of}
 use Rattle.disk_model.specs.declared.mem_disk.MemDisk.{MemDisk}
@@ -148,3 +149,14 @@ sets_other m name i d w is at not_open =
 pub not_current : (current : Option (List ℕ)) (name : List ℕ) → current ≢ Some name → is_name_of current name ≡ false
 not_current None name ne = refl
 not_current (Some other) name ne = let apart : other ≢ name = λ e. ne (ap (λ (n : List ℕ). Some n) e) in grind (arith, bytes_eq-Decides)
+
+-- the moments of the medium, by its parts
+abbrev moments_by : ℕ → Bool → MemDisk → Past
+moments_by earlier is_told d = later_by earlier is_told (past_of d.device.is_told d.device.steps.items (d.device.cells.items, d.device.flags.items))
+
+-- where another image than the open one is set, the moments are the same
+pub same_moments : (P : Past → Type 0) {old new : MemMedia} {name : List ℕ} {disk : MemDisk} → SetsImage old name new disk → is_name_of (fixed_of old).current name ≡ false
+    → P (past_since old) → P (past_since new)
+same_moments P {old} {new} sets ne holds =
+    subst (λ (d : MemDisk). P (moments_by new.earlier new.is_told d)) (sym (sets.not_open ne))
+    (subst (λ (e : ℕ). P (moments_by e new.is_told old.disk)) (sym sets.earlier) (subst (λ (b : Bool). P (moments_by old.earlier b old.disk)) (sym sets.told) holds))

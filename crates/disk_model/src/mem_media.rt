@@ -6,7 +6,7 @@ ghost use Rattle.std.specs.Option.{option_copied_mut};
 ghost use Rattle.std.specs.Borrow.{sem};
 ghost use Rattle.disk_model.specs.Disk.{blank};
 ghost use Rattle.disk_model.specs.declared.named.Named.{Named};
-ghost use Rattle.disk_model.specs.Past.{Adds, HasBegun};
+ghost use Rattle.disk_model.specs.Past.{Adds, Keeps, HasBegun};
 ghost use Rattle.disk_model.specs.Media.{image_named, of_size};
 ghost use Rattle.disk_model.specs.declared.media.OpenFault.TheVariants.{Failed};
 
@@ -138,6 +138,10 @@ impl MemMedia {
         ensures state { (⟦<MemMedia as Disk>⟧.fixed self.old).current ≢ Some name.now → ⟦<MemMedia as Disk>⟧.state self.new ≡ ⟦<MemMedia as Disk>⟧.state self.old }
         ensures faults { ⟦<MemMedia as Disk>⟧.faults self.new ≡ ⟦<MemMedia as Disk>⟧.faults self.old }
         ensures given { ⟦<MemMedia as Disk>⟧.given self.new ≡ ⟦<MemMedia as Disk>⟧.given self.old }
+        // The moments of the open image stay, if it isn't the one that is replaced.
+        ensures told { (⟦<MemMedia as Disk>⟧.fixed self.old).current ≢ Some name.now → (⟦<MemMedia as Disk>⟧.past self.new).is_told ≡ (⟦<MemMedia as Disk>⟧.past self.old).is_told }
+        ensures moments { (⟦<MemMedia as Disk>⟧.fixed self.old).current ≢ Some name.now → Adds (⟦<MemMedia as Disk>⟧.past self.old) (⟦<MemMedia as Disk>⟧.past self.new) (λ s. ⊥) }
+        ensures keeps { (⟦<MemMedia as Disk>⟧.fixed self.old).current ≢ Some name.now → Keeps (⟦<MemMedia as Disk>⟧.past self.old) (⟦<MemMedia as Disk>⟧.past self.new) }
     {
         if let Some(there) = self.disk(name) {
             *there = disk;
