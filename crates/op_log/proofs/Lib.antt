@@ -1,3 +1,4 @@
 pub mod DraftLemmas
 pub mod PathLemmas
 pub mod PieceLemmas
+pub mod ChangeLemmas

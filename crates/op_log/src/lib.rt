@@ -1,5 +1,10 @@
 //! The log of a volume: each accepted command as one record, written and read back.
 #![tactic(auto)]
 
+mod appending;
+mod blocks;
 mod draft;
 mod spelling;
+
+pub use appending::append;
+pub use blocks::record_blocks;
