@@ -44,10 +44,10 @@ unchanged_mounted {name = name} {old = old} {new = new} {image = image} found al
 }
 
 -- a mount is a session of no command
-mounted : {room : ℕ} {tells : Bool} {text : Text} {sink : Output} {names : List (List ℕ)} {image state : State} {past opened mounted_past : Past} {faults mounted_faults slot : ℕ} {root : Root}
-    → Adds past opened (λ s. s ≡ image) → (IsTrue tells → Adds opened mounted_past (DuringSync image)) → (IsTrue tells → Fits slot root names state) → faults ≤ mounted_faults
-    → Session room tells (point text sink names image past faults) (point text sink names state mounted_past mounted_faults) None
-mounted {text = text} {sink = sink} {image = image} opens syncs fits le = record {
+mounted : {room : ℕ} {tells : Bool} {text : Text} {sink : Output} {names : List (List ℕ)} {image state : State} {past opened mounted_past : Past} {slot : ℕ} {root : Root}
+    → Adds past opened (λ s. s ≡ image) → (IsTrue tells → Adds opened mounted_past (DuringSync image)) → (IsTrue tells → Fits slot root names state)
+    → Session room tells (point text sink names image past) (point text sink names state mounted_past) None
+mounted {text = text} {sink = sink} {image = image} opens syncs fits = record {
   commands = [];
   answers = [];
   last = Nothing;
@@ -59,13 +59,12 @@ mounted {text = text} {sink = sink} {image = image} opens syncs fits le = record
   names = λ none. refl;
   moments = λ is. adds_then (adds_weaker opens (λ s e b im. inr (subst (λ (m : State). IsImage m b) e im))) (syncs is) (λ s during b im. inr (no_more_during image s during b im));
   leaves = λ is. ((fits is).all_synced, all_stand (fits is) refl);
-  faults_never_fall = le;
 }
 
 -- why no volume was mounted is told, or the sink fails
 pub found_cause : (tells : Bool) (there : Option State) (old new : Ends) (status : Status) (finding : Finding) → IsFound tells there finding → TellsFinding finding status old.sink new.sink → IsUnmounted status tells there old new
 found_cause tells there old new BadVolume finding found told = (finding, found, told)
-found_cause tells there old new SinkFailed finding found told = (finding, found, told.0, told.1)
+found_cause tells there old new SinkFailed finding found told = (finding, found, told)
 found_cause tells there old new Done finding found told = absurd told
 found_cause tells there old new Usage finding found told = absurd told
 found_cause tells there old new Device finding found told = absurd told
@@ -74,12 +73,12 @@ found_cause tells there old new NoMemory finding found told = absurd told
 found_cause tells there old new BadStream finding found told = absurd told
 found_cause tells there old new Budget finding found told = absurd told
 
-module _ {tells : Bool} {name : List ℕ} {old new : Ends} {fixed : Fixed} {image state : State} {opened past : Past} {faults slot : ℕ} {root : Root} {names : List (List ℕ)}
+module _ {tells : Bool} {name : List ℕ} {old new : Ends} {fixed : Fixed} {image state : State} {opened past : Past} {slot : ℕ} {root : Root} {names : List (List ℕ)}
     (found : IsTrue tells → image_at old name ≡ Some image) (all : IsTrue tells → (other : List ℕ) → image_named fixed image other ≡ image_at old other)
     (opens : Adds old.past opened (λ s. s ≡ image)) (syncs : IsTrue tells → Adds opened past (DuringSync image))
-    (fits : IsTrue tells → Fits slot root names state) (is_synced : IsTrue tells → state ≡ synced image) (le : old.faults ≤ faults) (same : new.fixed ≡ fixed) where
+    (fits : IsTrue tells → Fits slot root names state) (is_synced : IsTrue tells → state ≡ synced image) (same : new.fixed ≡ fixed) where
   -- the input wasn't taken
-  untaken : {status : Status} → UntakenHere (ends_of old.source old.sink fixed state past faults) new status → Untaken tells name old new status
+  untaken : {status : Status} → UntakenHere (ends_of old.source old.sink fixed state past) new status → Untaken tells name old new status
   untaken u = record {
     sink = u.sink;
     unchanged = unchanged_mounted found (λ is other. ap (λ (f : Fixed). image_named f image other) same ∙ all is other) opens (λ is. inr (u.state ∙ is_synced is))
@@ -88,7 +87,7 @@ module _ {tells : Bool} {name : List ℕ} {old new : Ends} {fixed : Fixed} {imag
     cause = u.cause;
   }
 
-  pub served : {status : Status} → UntakenHere (ends_of old.source old.sink fixed state past faults) new status ⊎ Answered tells root.layout.log_blocks names state (ends_of old.source old.sink fixed state past faults) new status → Served tells name old new status
+  pub served : {status : Status} → UntakenHere (ends_of old.source old.sink fixed state past) new status ⊎ Answered tells root.layout.log_blocks names state (ends_of old.source old.sink fixed state past) new status → Served tells name old new status
   served either = record {
     image = image;
     names = names;
@@ -102,6 +101,6 @@ module _ {tells : Bool} {name : List ℕ} {old new : Ends} {fixed : Fixed} {imag
       whole = a.whole;
       within = a.within;
       left = a.left;
-      session = session_then (mounted opens syncs fits le) a.session;
+      session = session_then (mounted opens syncs fits) a.session;
     })) either;
   }

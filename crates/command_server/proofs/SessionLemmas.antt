@@ -54,7 +54,6 @@ pub puts_then : {a b c : Output} {xs ys : List ℕ} → Puts a b xs → Puts b c
 puts_then {a = a} {xs = xs} {ys = ys} one two = record {
   told = λ told. two.told (one.told told);
   appended = λ told. two.appended (one.told told) ∙ ap (λ (l : List ℕ). l ++ ys) (one.appended told) ∙ append_assoc a.got xs ys;
-  never_falls = omega (arith, one.never_falls, two.never_falls);
 }
 
 -- what stands for some of the first files
@@ -83,17 +82,18 @@ leaves_later Nothing start a acknowledged b s left = (left.0, λ image is. lower
 leaves_later (Cut answer count) start a acknowledged b s left = (left.0, λ image is. lower (later start a b (length b) image (left.1 image is)) (omega (arith, length-append a b)))
 leaves_later (Stop stopped) start a acknowledged b s left = (left.0, λ image is. lower (later start a b (length acknowledged) image (left.1 image is)) (omega (arith, length-append a acknowledged)))
 
-ends_earlier : (ended : Option Status) (old mid new : Point) (rest : Text) (last : Last) → old.faults ≤ mid.faults → old.sink.faults ≤ mid.sink.faults → EndsBy ended mid new rest last → EndsBy ended old new rest last
-ends_earlier None old mid new rest last faults sink ends = ends
-ends_earlier (Some Done) old mid new rest last faults sink ends = ends
-ends_earlier (Some BadStream) old mid new rest last faults sink ends = ends
-ends_earlier (Some SinkFailed) old mid new rest last faults sink ends = (ends.0, omega (arith, ends.1, sink))
-ends_earlier (Some Device) old mid new rest last faults sink ends = (ends.0, omega (arith, ends.1, faults))
-ends_earlier (Some SourceFailed) old mid new rest last faults sink ends = absurd ends
-ends_earlier (Some NoMemory) old mid new rest last faults sink ends = absurd ends
-ends_earlier (Some Budget) old mid new rest last faults sink ends = absurd ends
-ends_earlier (Some Usage) old mid new rest last faults sink ends = absurd ends
-ends_earlier (Some BadVolume) old mid new rest last faults sink ends = absurd ends
+-- how it ends doesn't rest on where it began
+ends_earlier : (ended : Option Status) (old mid new : Point) (rest : Text) (last : Last) → EndsBy ended mid new rest last → EndsBy ended old new rest last
+ends_earlier None old mid new rest last ends = ends
+ends_earlier (Some Done) old mid new rest last ends = ends
+ends_earlier (Some BadStream) old mid new rest last ends = ends
+ends_earlier (Some SinkFailed) old mid new rest last ends = ends
+ends_earlier (Some Device) old mid new rest last ends = ends
+ends_earlier (Some SourceFailed) old mid new rest last ends = absurd ends
+ends_earlier (Some NoMemory) old mid new rest last ends = absurd ends
+ends_earlier (Some Budget) old mid new rest last ends = absurd ends
+ends_earlier (Some Usage) old mid new rest last ends = absurd ends
+ends_earlier (Some BadVolume) old mid new rest last ends = absurd ends
 
 module _ {room : ℕ} {tells : Bool} {old mid new : Point} {ended : Option Status} (one : Session room tells old mid None) (two : Session room tells mid new ended) where
   -- all of the first session's answers were put whole
@@ -152,7 +152,7 @@ module _ {room : ℕ} {tells : Bool} {old mid new : Point} {ended : Option Statu
     legal = subst (λ (os : List Outcome). Run room old.names (one.commands ++ two.commands) os) (sym outcomes)
         (run_then room old.names one.commands whole two.commands outcomes_two run_one (subst (λ (n : List (List ℕ)). Run room n two.commands outcomes_two) names_mid two.legal));
     put = subst (λ (l : List ℕ). Puts old.sink new.sink l) (sym texts_are) (puts_then put_one two.put);
-    ends = ends_earlier ended old mid new two.rest two.last one.faults_never_fall one.put.never_falls two.ends;
+    ends = ends_earlier ended old mid new two.rest two.last two.ends;
     names = λ none. two.names none ∙ ap (λ (n : List (List ℕ)). after (all_added room n two.commands (map Ok two.answers)) n) names_mid ∙ sym (after_then added_one _ old.names)
         ∙ ap (λ (l : List (List ℕ)). after l old.names) (sym acknowledged);
     moments = λ is. subst (λ (l : List (List ℕ)). Adds old.past new.past (EachImage (MayBeLeft old.names l old.state))) (sym accepted)
@@ -164,5 +164,4 @@ module _ {room : ℕ} {tells : Bool} {old mid new : Point} {ended : Option Statu
         (subst (λ (l : List (List ℕ)). Leaves two.last old.names (length (added_one ++ all_added room (after added_one old.names) two.commands (map Ok two.answers))) l new.state) (sym accepted)
         (leaves_later two.last old.names added_one (all_added room (after added_one old.names) two.commands (map Ok two.answers)) added_two new.state
         (subst (λ (n : List (List ℕ)). Leaves two.last n (length (all_added room n two.commands (map Ok two.answers))) (all_added room n two.commands outcomes_two) new.state) names_mid (two.leaves is))));
-    faults_never_fall = omega (arith, one.faults_never_fall, two.faults_never_fall);
   }

@@ -1,7 +1,6 @@
 -- What one command makes of a session.
 use Rattle.std.proofs.Common.{◌≡◌, ◌≢◌, ℕ, ◌≤◌, Bool, false, List, [], ◌∷◌, ◌++◌, length, take, Option, Some, Err, IsTrue, refl, sym, ◌∙◌, ap, subst, inl, arith, append_assoc}
 use Rattle.std.proofs.lemmas.List.{append-nil, take_all}
-use Rattle.vol_numbers.specs.Cause.{Rose}
 use Rattle.disk_model.specs.Disk.{State, EachImage, is_among}
 use Rattle.disk_model.specs.Past.{Past, Adds}
 use Rattle.disk_model.proofs.Moments.{adds_none, adds_weaker}
@@ -34,7 +33,7 @@ after_is [] names = sym (append-nil names)
 after_is (x ∷ xs) names = after_is xs (and_name names x) ∙ append_assoc names (x ∷ []) xs
 
 pub puts_none : (sink : Output) → Puts sink sink []
-puts_none sink = record { told = λ told. told; appended = λ told. sym (append-nil sink.got); never_falls = omega arith }
+puts_none sink = record { told = λ told. told; appended = λ told. sym (append-nil sink.got) }
 
 -- each image stands for the files that the volume has
 pub all_stand : {slot : ℕ} {root : Root} {names start made : List (List ℕ)} {s : State} → Fits slot root names s → names ≡ after made start → EachImage (StandsForPrefix start (length made) made) s
@@ -46,10 +45,10 @@ all_stand {start = start} {made = made} {s = s} fits is image im = record {
 }
 
 -- no command was read
-pub nothing_read : {room : ℕ} {tells : Bool} {text next : Text} {sink : Output} {names : List (List ℕ)} {state : State} {past : Past} {faults slot : ℕ} {root : Root} {ended : Option Status}
+pub nothing_read : {room : ℕ} {tells : Bool} {text next : Text} {sink : Output} {names : List (List ℕ)} {state : State} {past : Past} {slot : ℕ} {root : Root} {ended : Option Status}
     → (IsTrue tells → Fits slot root names state)
-    → EndsBy ended (point text sink names state past faults) (point next sink names state past faults) text Nothing
-    → Session room tells (point text sink names state past faults) (point next sink names state past faults) ended
+    → EndsBy ended (point text sink names state past) (point next sink names state past) text Nothing
+    → Session room tells (point text sink names state past) (point next sink names state past) ended
 nothing_read {text = text} {sink = sink} {names = names} {past = past} fits ends = record {
   commands = [];
   answers = [];
@@ -62,7 +61,6 @@ nothing_read {text = text} {sink = sink} {names = names} {past = past} fits ends
   names = λ none. refl;
   moments = λ is. adds_none past _;
   leaves = λ is. ((fits is).all_synced, all_stand (fits is) refl);
-  faults_never_fall = omega arith;
 }
 
 -- what comes behind a command
@@ -85,20 +83,19 @@ names_after : (names names' more : List (List ℕ)) → names' ≡ names ++ more
 names_after names names' more are = are ∙ sym (after_is more names) ∙ ap (λ (l : List (List ℕ)). after l names) (sym (append-nil more))
 
 -- what is known where a command was answered
-pub record Applied (room : ℕ) (tells : Bool) (command : Command) (names : List (List ℕ)) (state' : State) (past past' : Past) (faults faults' slot : ℕ) (root : Root) (names' : List (List ℕ)) (answer : Answer) : Type 0 where
+pub record Applied (room : ℕ) (tells : Bool) (command : Command) (names : List (List ℕ)) (state' : State) (past past' : Past) (slot : ℕ) (root : Root) (names' : List (List ℕ)) (answer : Answer) : Type 0 where
   pub legal : Legal room names command answer
   pub names_are : names' ≡ names ++ accepted command answer
   pub fits : IsTrue tells → Fits slot root names' state'
   pub during : IsTrue tells → Adds past past' (EachImage (StandsForSome names (accepted command answer)))
-  pub never_falls : faults ≤ faults'
 
 module _ {room : ℕ} {tells : Bool} {text next : Text} {bytes : List ℕ} {command : Command} (read : first text ≡ Item command (behind bytes command))
-    {names : List (List ℕ)} {state state' : State} {past past' : Past} {faults faults' : ℕ} where
+    {names : List (List ℕ)} {state state' : State} {past past' : Past} where
   -- the volume stopped
   pub stopped_at : {sink : Output} {names' : List (List ℕ)} {stopped : Stopped} → (IsTrue tells → Adds past past' (EachImage (StandsForSome names (added room names command (Err stopped)))))
-      → (IsTrue tells → EachImage (StandsForSome names (added room names command (Err stopped))) state') → (IsTrue tells → state'.unsynced ≢ []) → Rose faults faults' → faults ≤ faults'
-      → Session room tells (point text sink names state past faults) (point next sink names' state' past' faults') (Some Device)
-  stopped_at {sink = sink} {stopped = stopped} during left_there unsynced rose le = record {
+      → (IsTrue tells → EachImage (StandsForSome names (added room names command (Err stopped))) state') → (IsTrue tells → state'.unsynced ≢ [])
+      → Session room tells (point text sink names state past) (point next sink names' state' past') (Some Device)
+  stopped_at {sink = sink} {stopped = stopped} during left_there unsynced = record {
     commands = command ∷ [];
     answers = [];
     last = Stop stopped;
@@ -106,7 +103,7 @@ module _ {room : ℕ} {tells : Bool} {text next : Text} {bytes : List ℕ} {comm
     read = (behind bytes command, read, refl);
     legal = (tt, tt);
     put = puts_none sink;
-    ends = ((stopped, refl), rose);
+    ends = (stopped, refl);
     names = λ none. cc;
     moments = λ is. moments_of (added room names command (Err stopped)) (during is);
     leaves = λ is. (
@@ -114,16 +111,15 @@ module _ {room : ℕ} {tells : Bool} {text next : Text} {bytes : List ℕ} {comm
       subst (λ (l : List (List ℕ)). EachImage (StandsForPrefix names 0 l) state') (sym (append-nil (added room names command (Err stopped))))
           (λ image im. let some = left_there is image im in record { count = some.count; at_least = omega arith; at_most = some.within; stands = some.stands }),
     );
-    faults_never_fall = le;
   }
 
 module _ {room : ℕ} {tells : Bool} {text next : Text} {bytes : List ℕ} {command : Command} (read : first text ≡ Item command (behind bytes command))
-    {names : List (List ℕ)} {state state' : State} {past past' : Past} {faults faults' slot : ℕ} {root : Root} {names' : List (List ℕ)} {answer : Answer}
-    (applied : Applied room tells command names state' past past' faults faults' slot root names' answer) {sink sink' : Output} where
+    {names : List (List ℕ)} {state state' : State} {past past' : Past} {slot : ℕ} {root : Root} {names' : List (List ℕ)} {answer : Answer}
+    (applied : Applied room tells command names state' past past' slot root names' answer) {sink sink' : Output} where
   -- its text was put
   pub answered : {ended : Option Status} → Puts sink sink' (text_of answer)
-      → EndsBy ended (point text sink names state past faults) (point next sink' names' state' past' faults') (behind bytes command) Nothing
-      → Session room tells (point text sink names state past faults) (point next sink' names' state' past' faults') ended
+      → EndsBy ended (point text sink names state past) (point next sink' names' state' past') (behind bytes command) Nothing
+      → Session room tells (point text sink names state past) (point next sink' names' state' past') ended
   answered put ends = record {
     commands = command ∷ [];
     answers = answer ∷ [];
@@ -136,13 +132,12 @@ module _ {room : ℕ} {tells : Bool} {text next : Text} {bytes : List ℕ} {comm
     names = λ none. (names_after names names' (accepted command answer) applied.names_are);
     moments = λ is. moments_of (accepted command answer) (applied.during is);
     leaves = λ is. ((applied.fits is).all_synced, all_stand (applied.fits is) (names_after names names' (accepted command answer) applied.names_are));
-    faults_never_fall = applied.never_falls;
   }
 
   -- so many bytes of it were put
   pub cut_off : {status : Status} (count : ℕ) → Puts sink sink' (take count (text_of answer))
-      → EndsBy (Some status) (point text sink names state past faults) (point next sink' names' state' past' faults') (behind bytes command) (Cut answer count)
-      → Session room tells (point text sink names state past faults) (point next sink' names' state' past' faults') (Some status)
+      → EndsBy (Some status) (point text sink names state past) (point next sink' names' state' past') (behind bytes command) (Cut answer count)
+      → Session room tells (point text sink names state past) (point next sink' names' state' past') (Some status)
   cut_off count put ends = record {
     commands = command ∷ [];
     answers = [];
@@ -155,5 +150,4 @@ module _ {room : ℕ} {tells : Bool} {text next : Text} {bytes : List ℕ} {comm
     names = λ none. cc;
     moments = λ is. moments_of (accepted command answer) (applied.during is);
     leaves = λ is. ((applied.fits is).all_synced, all_stand (applied.fits is) (names_after names names' (accepted command answer) applied.names_are));
-    faults_never_fall = applied.never_falls;
   }

@@ -8,7 +8,6 @@ pub takes_both : {old mid new : Input} {first second : List ℕ} → Takes old m
 takes_both {old} {mid} {new} {first} {second} one two = record {
   told = λ told. two.told (one.told told);
   next = λ told. one.next told ∙ ap (λ (l : List ℕ). first ++ l) (two.next (one.told told)) ∙ sym (append_assoc first second new.left);
-  never_falls = omega arith;
 }
 
 -- at most so many with those that were taken before

@@ -1,5 +1,5 @@
 -- What a source still has and what a sink has got.
-use Rattle.std.specs.Prelude.{◌≡◌, ◌≤◌, ◌++◌, ℕ, Bool, List, take, IsTrue}
+use Rattle.std.specs.Prelude.{◌≡◌, ◌++◌, ℕ, Bool, List, take, IsTrue}
 
 -- the bytes that are left, where the source tells them, and how often it has failed
 pub record Input : Type 0 where
@@ -17,13 +17,11 @@ pub record Output : Type 0 where
 pub record Takes (old new : Input) (bytes : List ℕ) : Type 0 where
   pub told : IsTrue old.is_told → IsTrue new.is_told
   pub next : IsTrue old.is_told → old.left ≡ bytes ++ new.left
-  pub never_falls : old.faults ≤ new.faults
 
 -- these bytes were appended, where the sink tells it
 pub record Puts (old new : Output) (bytes : List ℕ) : Type 0 where
   pub told : IsTrue old.is_told → IsTrue new.is_told
   pub appended : IsTrue old.is_told → new.got ≡ old.got ++ bytes
-  pub never_falls : old.faults ≤ new.faults
 
 -- some prefix of these bytes was appended
 pub record PutsPart (old new : Output) (bytes : List ℕ) : Type 0 where

@@ -1,6 +1,7 @@
 pub mod Asked
 pub mod Blocks
 pub mod Ends
+pub mod Faults
 pub mod Finding
 pub mod Fits
 pub mod Formatting

@@ -1,6 +1,5 @@
 -- What serving an image does.
 use Rattle.std.specs.Prelude.{◌≡◌, ◌⊎◌, ◌<◌, ℕ, Bool, List, [], length, Option, Some, IsTrue, IfSome, IsSomeAnd}
-use Rattle.vol_numbers.specs.Cause.{Rose}
 use Rattle.vol_numbers.specs.declared.block.Block.{Block}
 use Rattle.disk_model.specs.Disk.{State, IsImage}
 use Rattle.disk_model.specs.Media.{Fixed, image_named}
@@ -23,10 +22,9 @@ pub record Ends : Type 1 where
   pub fixed : Fixed
   pub state : State
   pub past : Past
-  pub faults : ℕ
 
-abbrev pub ends_of : Input → Output → Fixed → State → Past → ℕ → Ends
-ends_of source sink fixed state past faults = record { source = source; sink = sink; fixed = fixed; state = state; past = past; faults = faults }
+abbrev pub ends_of : Input → Output → Fixed → State → Past → Ends
+ends_of source sink fixed state past = record { source = source; sink = sink; fixed = fixed; state = state; past = past }
 
 abbrev pub image_at : Ends → List ℕ → Option State
 image_at ends name = image_named ends.fixed ends.state name
@@ -51,8 +49,8 @@ IsFound tells there finding = IsTrue tells → IsSomeAnd there (λ s. Finds s.co
 -- why no volume was mounted from an image, and what was put
 abbrev pub IsUnmounted : Status → Bool → Option State → Ends → Ends → Type 0
 IsUnmounted BadVolume tells there old new = (finding : Finding) × IsFound tells there finding × Puts old.sink new.sink (finding_text finding)
-IsUnmounted SinkFailed tells there old new = (finding : Finding) × IsFound tells there finding × PutsPart old.sink new.sink (finding_text finding) × Rose old.sink.faults new.sink.faults
-IsUnmounted Device tells there old new = (new.sink ≡ old.sink) × Rose old.faults new.faults
+IsUnmounted SinkFailed tells there old new = (finding : Finding) × IsFound tells there finding × PutsPart old.sink new.sink (finding_text finding)
+IsUnmounted Device tells there old new = new.sink ≡ old.sink
 IsUnmounted NoMemory tells there old new = new.sink ≡ old.sink
 IsUnmounted Done tells there old new = ⊥
 IsUnmounted Usage tells there old new = ⊥
@@ -68,7 +66,7 @@ pub record Unmounted (tells : Bool) (name : List ℕ) (old new : Ends) (status :
 
 -- why the input wasn't taken
 abbrev pub IsUntaken : Status → Input → Input → Type 0
-IsUntaken SourceFailed old new = Rose old.faults new.faults
+IsUntaken SourceFailed old new = Unit {0}
 IsUntaken Budget old new = TakesCount old new 65536
 IsUntaken NoMemory old new = Unit {0}
 IsUntaken Done old new = ⊥
@@ -93,8 +91,8 @@ pub record Answered (tells : Bool) (room : ℕ) (names : List (List ℕ)) (image
   pub within : length bytes < 65536
   pub left : List (List ℕ)
   pub session : Session room tells
-      (point (text_in bytes) old.sink names image old.past old.faults)
-      (point no_text new.sink left new.state new.past new.faults)
+      (point (text_in bytes) old.sink names image old.past)
+      (point no_text new.sink left new.state new.past)
       (Some status)
 
 -- A volume was mounted from the named image. It stood for these files, and its log has room for so many records.
@@ -116,14 +114,13 @@ pub record UntakenHere (old new : Ends) (status : Status) : Type 0 where
   pub sink : new.sink ≡ old.sink
   pub state : new.state ≡ old.state
   pub moments : Adds old.past new.past (λ s. ⊥)
-  pub faults : new.faults ≡ old.faults
   pub at_most : TakesAtMost old.source new.source 65536
   pub cause : IsUntaken status old.source new.source
 
 -- what is put of a finding, by the status
 abbrev pub TellsFinding : Finding → Status → Output → Output → Type 0
 TellsFinding finding BadVolume old new = Puts old new (finding_text finding)
-TellsFinding finding SinkFailed old new = PutsPart old new (finding_text finding) × Rose old.faults new.faults
+TellsFinding finding SinkFailed old new = PutsPart old new (finding_text finding)
 TellsFinding finding Done old new = ⊥
 TellsFinding finding Usage old new = ⊥
 TellsFinding finding Device old new = ⊥

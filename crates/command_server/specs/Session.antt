@@ -1,6 +1,5 @@
 -- What a session does. The log has room for so many records.
 use Rattle.std.specs.Prelude.{◌≡◌, ◌≢◌, ◌⊎◌, ◌≤◌, ◌++◌, ℕ, Bool, List, [], ◌∷◌, length, take, map, Option, Some, None, Result, Ok, Err, IsTrue, IsNone}
-use Rattle.vol_numbers.specs.Cause.{Rose}
 use Rattle.vol_numbers.specs.declared.block.Block.{Block}
 use Rattle.disk_model.specs.Disk.{State, IsImage, EachImage}
 use Rattle.disk_model.specs.Past.{Past, Adds}
@@ -76,18 +75,17 @@ pub record Point : Type 1 where
   pub names : List (List ℕ)
   pub state : State
   pub past : Past
-  pub faults : ℕ
 
-abbrev pub point : Text → Output → List (List ℕ) → State → Past → ℕ → Point
-point text sink names state past faults = record { text = text; sink = sink; names = names; state = state; past = past; faults = faults }
+abbrev pub point : Text → Output → List (List ℕ) → State → Past → Point
+point text sink names state past = record { text = text; sink = sink; names = names; state = state; past = past }
 
 -- how a session ends by its status, or goes on
 abbrev pub EndsBy : Option Status → Point → Point → Text → Last → Type 0
 EndsBy None old new rest last = (last ≡ Nothing) × (rest ≡ new.text)
 EndsBy (Some Done) old new rest last = (last ≡ Nothing) × (first rest ≡ Ended)
 EndsBy (Some BadStream) old new rest last = (last ≡ Nothing) × (first rest ≡ Bad)
-EndsBy (Some SinkFailed) old new rest last = IsCut last × Rose old.sink.faults new.sink.faults
-EndsBy (Some Device) old new rest last = IsStop last × Rose old.faults new.faults
+EndsBy (Some SinkFailed) old new rest last = IsCut last
+EndsBy (Some Device) old new rest last = IsStop last
 EndsBy (Some SourceFailed) old new rest last = ⊥
 EndsBy (Some NoMemory) old new rest last = ⊥
 EndsBy (Some Budget) old new rest last = ⊥
@@ -114,4 +112,3 @@ pub record Session (room : ℕ) (tells : Bool) (old new : Point) (ended : Option
   -- at each moment, and in the end
   pub moments : IsTrue tells → Adds old.past new.past (EachImage (MayBeLeft old.names (all_added room old.names commands (map Ok answers ++ last_outcome last)) old.state))
   pub leaves : IsTrue tells → Leaves last old.names (length (all_added room old.names commands (map Ok answers))) (all_added room old.names commands (map Ok answers ++ last_outcome last)) new.state
-  pub faults_never_fall : old.faults ≤ new.faults

@@ -1,6 +1,6 @@
 //! The input of a session, which is taken whole before its first line is answered.
 ghost use Rattle.std.specs.Prelude.{◌≡◌, ◌<◌, ◌≤◌, ◌-◌, [], length, IfOk, IsErrOf, IsTrue};
-ghost use Rattle.vol_numbers.specs.Cause.{Rose};
+ghost use Rattle.vol_numbers.specs.Cause.{raised};
 ghost use Rattle.command_server.specs.Ends.{Takes};
 ghost use Rattle.command_server.specs.Taking.{TakesPiece, TakesCount, TakesAtMost};
 
@@ -24,10 +24,10 @@ pub(crate) fn read_input<R: Source>(alloc: Global, source: &mut R) -> Result<Vec
     ensures ended { IfOk result (λ bytes. IsTrue (R.seen source.old).is_told → (R.seen source.new).left ≡ []) }
     ensures fewer { IfOk result (λ bytes. length bytes.items < 65_536) }
     ensures budget { IsErrOf result InputFault.Budget → TakesCount (R.seen source.old) (R.seen source.new) 65_536 }
-    ensures source { IsErrOf result InputFault.Source → Rose (R.seen source.old).faults (R.seen source.new).faults }
+    ensures source { IsErrOf result InputFault.Source → (R.seen source.new).faults ≡ raised (R.seen source.old).faults }
+    ensures kept { ¬ IsErrOf result InputFault.Source → (R.seen source.new).faults ≡ (R.seen source.old).faults }
     ensures at_most { TakesAtMost (R.seen source.old) (R.seen source.new) 65_536 }
     ensures told { IsTrue (R.seen source.old).is_told → IsTrue (R.seen source.new).is_told }
-    ensures faults { (R.seen source.old).faults ≤ (R.seen source.new).faults }
 {
     let mut bytes = Vec::new(alloc);
     'pieces: while bytes.len() < 65_536 {
@@ -45,10 +45,10 @@ fn take_piece<R: Source>(source: &mut R, bytes: &mut Vec<u8>) -> Result<usize, I
     ensures ended { IfOk result (λ count. count ≡ 0 → IsTrue (R.seen source.old).is_told → (R.seen source.old).left ≡ []) }
     ensures within { IfOk result (λ count. length bytes.new.items ≤ 65_536) }
     ensures no_budget { IsErrOf result InputFault.Budget → ⊥ }
-    ensures source { IsErrOf result InputFault.Source → Rose (R.seen source.old).faults (R.seen source.new).faults }
+    ensures source { IsErrOf result InputFault.Source → (R.seen source.new).faults ≡ raised (R.seen source.old).faults }
+    ensures kept { ¬ IsErrOf result InputFault.Source → (R.seen source.new).faults ≡ (R.seen source.old).faults }
     ensures at_most { TakesAtMost (R.seen source.old) (R.seen source.new) (65_536 - length bytes.old.items) }
     ensures told { IsTrue (R.seen source.old).is_told → IsTrue (R.seen source.new).is_told }
-    ensures faults { (R.seen source.old).faults ≤ (R.seen source.new).faults }
 {
     let mut piece = [0; 4_096];
     let most = (65_536 - bytes.len()).min(4_096);

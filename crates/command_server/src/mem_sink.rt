@@ -1,6 +1,6 @@
 //! A sink in memory.
 ghost use Rattle.std.specs.Prelude.{◌≡◌, ◌<◌, ◌≤◌, ◌+◌, ◌⊎◌, [], length, true, vec_len, vec_capacity, None, IfOk, OnOk, OnErr, IsErr, IsTrue, ◌↔◌};
-ghost use Rattle.vol_numbers.specs.Cause.{Rose};
+ghost use Rattle.vol_numbers.specs.Cause.{HasCause};
 ghost use Rattle.vol_numbers.specs.Plan.{IsPlanned, advanced};
 
 use crate::{Sink, SinkFault};
@@ -62,7 +62,7 @@ impl Sink for MemSink {
     fn put(&mut self, bytes: &[u8]) -> Result<(), SinkFault>
         ensures put { OnOk result (Puts (⟦<MemSink as Sink>⟧.seen self.old) (⟦<MemSink as Sink>⟧.seen self.new) bytes.now) }
         ensures part { OnErr result (PutsPart (⟦<MemSink as Sink>⟧.seen self.old) (⟦<MemSink as Sink>⟧.seen self.new) bytes.now) }
-        ensures cause { IsErr result → Rose (⟦<MemSink as Sink>⟧.seen self.old).faults (⟦<MemSink as Sink>⟧.seen self.new).faults }
+        ensures cause { HasCause (⟦<MemSink as Sink>⟧.seen self.old).faults (⟦<MemSink as Sink>⟧.seen self.new).faults result }
         ensures planned { IsErr result ↔ (IsPlanned (sink_plan self.old) ⊎ (room_of self.old < length (⟦<MemSink as Sink>⟧.seen self.old).got + length bytes.now)) }
         ensures next { sink_plan self.new ≡ advanced (sink_plan self.old) }
         ensures room { room_of self.new ≡ room_of self.old }

@@ -1,6 +1,6 @@
 //! A source in memory.
 ghost use Rattle.std.specs.Prelude.{◌≡◌, ◌<◌, ◌≤◌, ◌+◌, [], take, drop, min, length, true, IfOk, OnErr, IsErr, IsTrue, ◌↔◌};
-ghost use Rattle.vol_numbers.specs.Cause.{Rose};
+ghost use Rattle.vol_numbers.specs.Cause.{HasCause};
 ghost use Rattle.vol_numbers.specs.Plan.{IsPlanned, advanced};
 
 use crate::{Source, SourceFault};
@@ -62,7 +62,7 @@ impl Source for MemSource {
         ensures taken { IfOk result (λ count. Takes (⟦<MemSource as Source>⟧.seen self.old) (⟦<MemSource as Source>⟧.seen self.new) (take count into.new)) }
         ensures at_end { IfOk result (λ count. count ≡ 0 → 0 < length into.new → IsTrue (⟦<MemSource as Source>⟧.seen self.old).is_told → (⟦<MemSource as Source>⟧.seen self.old).left ≡ []) }
         ensures err { OnErr result (Takes (⟦<MemSource as Source>⟧.seen self.old) (⟦<MemSource as Source>⟧.seen self.new) []) }
-        ensures cause { IsErr result → Rose (⟦<MemSource as Source>⟧.seen self.old).faults (⟦<MemSource as Source>⟧.seen self.new).faults }
+        ensures cause { HasCause (⟦<MemSource as Source>⟧.seen self.old).faults (⟦<MemSource as Source>⟧.seen self.new).faults result }
         ensures planned { IsErr result ↔ IsPlanned (source_plan self.old) }
         ensures next { source_plan self.new ≡ advanced (source_plan self.old) }
     {

@@ -1,6 +1,6 @@
 //! Mounts a volume.
 ghost use Rattle.std.specs.Prelude.{◌≡◌, ◌<◌, ◌≤◌, ◌↔◌, [], length, false, slice_get, Some, IfOk, IfSome, IfNone, OnOk, IsErrOf, IsTrue};
-ghost use Rattle.vol_numbers.specs.Cause.{HasCause, Rose};
+ghost use Rattle.vol_numbers.specs.Cause.{HasCause, raised};
 ghost use Rattle.vol_numbers.specs.Geometry.{layout_of};
 ghost use Rattle.disk_model.specs.Disk.{DuringSync, synced};
 ghost use Rattle.disk_model.specs.Past.{Adds};
@@ -41,8 +41,8 @@ pub(crate) fn mount<D: Disk>(alloc: Global, disk: &mut D) -> Result<LogVolume, M
     ensures same { IsTrue D.tells → DuringSync (D.state disk.old) (D.state disk.new) }
     ensures moments { IsTrue D.tells → Adds (D.past disk.old) (D.past disk.new) (DuringSync (D.state disk.old)) }
     ensures fixed { D.fixed disk.new ≡ D.fixed disk.old }
-    ensures never_falls { D.faults disk.old ≤ D.faults disk.new }
-    ensures device { IsErrOf result Device → Rose (D.faults disk.old) (D.faults disk.new) }
+    ensures device { IsErrOf result Device → D.faults disk.new ≡ raised (D.faults disk.old) }
+    ensures kept { ¬ IsErrOf result Device → D.faults disk.new ≡ D.faults disk.old }
 {
     if disk.sync().is_err() {
         return Err(MountFault::Device);
@@ -59,8 +59,8 @@ fn read_volume<D: Disk>(alloc: Global, disk: &mut D) -> Result<LogVolume, MountF
     ensures same { IsTrue D.tells → D.state disk.new ≡ D.state disk.old }
     ensures moments { IsTrue D.tells → Adds (D.past disk.old) (D.past disk.new) (λ s. s ≡ D.state disk.old) }
     ensures fixed { D.fixed disk.new ≡ D.fixed disk.old }
-    ensures never_falls { D.faults disk.old ≤ D.faults disk.new }
-    ensures device { IsErrOf result Device → Rose (D.faults disk.old) (D.faults disk.new) }
+    ensures device { IsErrOf result Device → D.faults disk.new ≡ raised (D.faults disk.old) }
+    ensures kept { ¬ IsErrOf result Device → D.faults disk.new ≡ D.faults disk.old }
 {
     let current = read_built(disk)?;
     let names = read_names(alloc, disk, &current.body)?;
@@ -77,8 +77,8 @@ fn read_built<D: Disk>(disk: &mut D) -> Result<Current, MountFault>
     ensures same { IsTrue D.tells → D.state disk.new ≡ D.state disk.old }
     ensures moments { IsTrue D.tells → Adds (D.past disk.old) (D.past disk.new) (λ s. s ≡ D.state disk.old) }
     ensures fixed { D.fixed disk.new ≡ D.fixed disk.old }
-    ensures never_falls { D.faults disk.old ≤ D.faults disk.new }
-    ensures device { IsErrOf result Device → Rose (D.faults disk.old) (D.faults disk.new) }
+    ensures device { IsErrOf result Device → D.faults disk.new ≡ raised (D.faults disk.old) }
+    ensures kept { ¬ IsErrOf result Device → D.faults disk.new ≡ D.faults disk.old }
 {
     let current = match read_current(disk) {
         Ok(current) => current,
@@ -180,8 +180,8 @@ fn read_names<D: Disk>(
     ensures same { IsTrue D.tells → D.state disk.new ≡ D.state disk.old }
     ensures moments { IsTrue D.tells → Adds (D.past disk.old) (D.past disk.new) (λ s. s ≡ D.state disk.old) }
     ensures fixed { D.fixed disk.new ≡ D.fixed disk.old }
-    ensures never_falls { D.faults disk.old ≤ D.faults disk.new }
-    ensures device { IsErrOf result Device → Rose (D.faults disk.old) (D.faults disk.new) }
+    ensures device { IsErrOf result Device → D.faults disk.new ≡ raised (D.faults disk.old) }
+    ensures kept { ¬ IsErrOf result Device → D.faults disk.new ≡ D.faults disk.old }
 {
     let mut names = Vec::new(alloc);
     for i in 0..body.records {

@@ -2,6 +2,7 @@
 ghost use Rattle.std.specs.Prelude.{◌≡◌, ◌≢◌, ◌⊎◌, ◌≤◌, List, ℕ, Some, IsTrue};
 ghost use Rattle.root_switch.specs.Root.{root_of};
 ghost use Rattle.disk_model.specs.Media.{image_named};
+ghost use Rattle.command_server.specs.Faults.{device_faults, source_faults, sink_faults};
 ghost use Rattle.command_server.specs.Fits.{Fits};
 ghost use Rattle.command_server.specs.Serves.{Serves, UntakenHere, Answered, TellsFinding, ends_of};
 
@@ -24,11 +25,13 @@ pub(crate) fn serve_image<M: Media, R: Source, W: Sink>(
     sink: &mut W,
 ) -> Status
     ensures served { Serves M.tells image.now
-        (ends_of (R.seen source.old) (W.seen sink.old) (M.fixed media.old) (M.state media.old) (M.past media.old) (M.faults media.old))
-        (ends_of (R.seen source.new) (W.seen sink.new) (M.fixed media.new) (M.state media.new) (M.past media.new) (M.faults media.new))
+        (ends_of (R.seen source.old) (W.seen sink.old) (M.fixed media.old) (M.state media.old) (M.past media.old))
+        (ends_of (R.seen source.new) (W.seen sink.new) (M.fixed media.new) (M.state media.new) (M.past media.new))
         result }
     ensures others { IsTrue M.tells → (other : List ℕ) → other ≢ image.now → image_named (M.fixed media.new) (M.state media.new) other ≡ image_named (M.fixed media.old) (M.state media.old) other }
-    ensures never_falls { M.faults media.old ≤ M.faults media.new }
+    ensures device_faults { M.faults media.new ≡ device_faults result (M.faults media.old) }
+    ensures source_faults { (R.seen source.new).faults ≡ source_faults result (R.seen source.old).faults }
+    ensures sink_faults { (W.seen sink.new).faults ≡ sink_faults result (W.seen sink.old).faults }
 {
     match media.open(image, None) {
         Ok(()) => {}
@@ -54,15 +57,17 @@ fn serve_input<D: Disk, R: Source, W: Sink>(
     requires size { (root_of volume.current.body).layout.blocks ≡ (D.fixed disk.old).size }
     requires fits { IsTrue D.tells → Fits volume.current.slot (root_of volume.current.body) volume.names.items (D.state disk.old) }
     ensures answered { UntakenHere
-        (ends_of (R.seen source.old) (W.seen sink.old) (D.fixed disk.old) (D.state disk.old) (D.past disk.old) (D.faults disk.old))
-        (ends_of (R.seen source.new) (W.seen sink.new) (D.fixed disk.new) (D.state disk.new) (D.past disk.new) (D.faults disk.new))
+        (ends_of (R.seen source.old) (W.seen sink.old) (D.fixed disk.old) (D.state disk.old) (D.past disk.old))
+        (ends_of (R.seen source.new) (W.seen sink.new) (D.fixed disk.new) (D.state disk.new) (D.past disk.new))
         result
         ⊎ Answered D.tells (root_of volume.current.body).layout.log_blocks volume.names.items (D.state disk.old)
-        (ends_of (R.seen source.old) (W.seen sink.old) (D.fixed disk.old) (D.state disk.old) (D.past disk.old) (D.faults disk.old))
-        (ends_of (R.seen source.new) (W.seen sink.new) (D.fixed disk.new) (D.state disk.new) (D.past disk.new) (D.faults disk.new))
+        (ends_of (R.seen source.old) (W.seen sink.old) (D.fixed disk.old) (D.state disk.old) (D.past disk.old))
+        (ends_of (R.seen source.new) (W.seen sink.new) (D.fixed disk.new) (D.state disk.new) (D.past disk.new))
         result }
     ensures fixed { D.fixed disk.new ≡ D.fixed disk.old }
-    ensures never_falls { D.faults disk.old ≤ D.faults disk.new }
+    ensures device_faults { D.faults disk.new ≡ device_faults result (D.faults disk.old) }
+    ensures source_faults { (R.seen source.new).faults ≡ source_faults result (R.seen source.old).faults }
+    ensures sink_faults { (W.seen sink.new).faults ≡ sink_faults result (W.seen sink.old).faults }
 {
     let mut volume = volume;
     match read_input(alloc, source) {
@@ -75,7 +80,8 @@ fn serve_input<D: Disk, R: Source, W: Sink>(
 
 /// Says why an image stands for nothing.
 fn tell_finding<W: Sink>(sink: &mut W, finding: Finding) -> Status
-    ensures { TellsFinding finding result (W.seen sink.old) (W.seen sink.new) }
+    ensures tells { TellsFinding finding result (W.seen sink.old) (W.seen sink.new) }
+    ensures sink_faults { (W.seen sink.new).faults ≡ sink_faults result (W.seen sink.old).faults }
 {
     match put_finding(sink, finding) {
         Ok(()) => Status::BadVolume,

@@ -1,5 +1,6 @@
 //! The lines that a run writes.
 ghost use Rattle.std.specs.Prelude.{◌≡◌};
+ghost use Rattle.vol_numbers.specs.Cause.{HasCause};
 ghost use Rattle.command_server.specs.Lines.{text_of, TextsTell};
 ghost use Rattle.command_server.specs.Texts.{usage_text, formatted_text, finding_text, bad_log_text};
 ghost use Rattle.command_server.specs.Putting.{PutsText};
@@ -12,14 +13,16 @@ use itoa::Buffer;
 
 /// Says how the program is called.
 pub(crate) fn put_usage<W: Sink>(sink: &mut W) -> Result<(), SinkFault>
-    ensures { PutsText (W.seen sink.old) (W.seen sink.new) usage_text result }
+    ensures text { PutsText (W.seen sink.old) (W.seen sink.new) usage_text result }
+    ensures cause { HasCause (W.seen sink.old).faults (W.seen sink.new).faults result }
 {
     sink.put(b"usage: idedup ACTION IMAGE [options]\n")
 }
 
 /// Says how many blocks are free after a format.
 pub(crate) fn put_formatted<W: Sink>(sink: &mut W, free: u32) -> Result<(), SinkFault>
-    ensures { PutsText (W.seen sink.old) (W.seen sink.new) (formatted_text free) result }
+    ensures text { PutsText (W.seen sink.old) (W.seen sink.new) (formatted_text free) result }
+    ensures cause { HasCause (W.seen sink.old).faults (W.seen sink.new).faults result }
 {
     let mut line = ArrayString::<32>::new();
     let mut digits = Buffer::new();
@@ -31,7 +34,8 @@ pub(crate) fn put_formatted<W: Sink>(sink: &mut W, free: u32) -> Result<(), Sink
 
 /// Says why an image stands for nothing.
 pub(crate) fn put_finding<W: Sink>(sink: &mut W, finding: Finding) -> Result<(), SinkFault>
-    ensures { PutsText (W.seen sink.old) (W.seen sink.new) (finding_text finding) result }
+    ensures text { PutsText (W.seen sink.old) (W.seen sink.new) (finding_text finding) result }
+    ensures cause { HasCause (W.seen sink.old).faults (W.seen sink.new).faults result }
 {
     match finding {
         Finding::NoRoot => sink.put(b"bad NoRoot\n"),
@@ -42,7 +46,8 @@ pub(crate) fn put_finding<W: Sink>(sink: &mut W, finding: Finding) -> Result<(),
 }
 
 fn put_bad_log<W: Sink>(sink: &mut W, index: u32) -> Result<(), SinkFault>
-    ensures { PutsText (W.seen sink.old) (W.seen sink.new) (bad_log_text index) result }
+    ensures text { PutsText (W.seen sink.old) (W.seen sink.new) (bad_log_text index) result }
+    ensures cause { HasCause (W.seen sink.old).faults (W.seen sink.new).faults result }
 {
     let mut line = ArrayString::<32>::new();
     let mut digits = Buffer::new();
@@ -54,7 +59,8 @@ fn put_bad_log<W: Sink>(sink: &mut W, index: u32) -> Result<(), SinkFault>
 
 /// Puts an answer.
 pub(crate) fn put_answer<W: Sink>(sink: &mut W, answer: Answer) -> Result<(), SinkFault>
-    ensures { PutsText (W.seen sink.old) (W.seen sink.new) (text_of answer) result }
+    ensures text { PutsText (W.seen sink.old) (W.seen sink.new) (text_of answer) result }
+    ensures cause { HasCause (W.seen sink.old).faults (W.seen sink.new).faults result }
 {
     sink.put(text_of(answer))
 }

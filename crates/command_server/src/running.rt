@@ -1,9 +1,9 @@
 //! The top call.
-ghost use Rattle.std.specs.Prelude.{◌≡◌, ◌⊎◌, ◌≤◌, ◌-◌, None, Some, IfSome, IsTrue};
-ghost use Rattle.vol_numbers.specs.Cause.{Rose};
+ghost use Rattle.std.specs.Prelude.{◌≡◌, ◌⊎◌, ◌-◌, None, Some, IfSome, IsTrue};
 ghost use Rattle.vol_numbers.specs.Geometry.{layout_of};
 ghost use Rattle.vol_numbers.specs.Layout.{area_size};
 ghost use Rattle.disk_model.specs.Past.{Adds};
+ghost use Rattle.command_server.specs.Faults.{device_faults, source_faults, sink_faults};
 ghost use Rattle.command_server.specs.Words.{request_of, Format};
 ghost use Rattle.command_server.specs.Text.{texts};
 ghost use Rattle.command_server.specs.Texts.{usage_text, formatted_text};
@@ -31,9 +31,10 @@ pub fn run<M: Media, R: Source, W: Sink>(
     // Usage exactly where the words are outside the table, but that a failure of the sink comes in its place.
     ensures usage { result ≡ Usage → request_of (texts words.now) ≡ None }
     ensures usage_always { request_of (texts words.now) ≡ None → (result ≡ Usage) ⊎ (result ≡ SinkFailed) }
-    // Each other failure has its cause. Want of memory alone is free.
-    ensures device { result ≡ Device → Rose (M.faults media.old) (M.faults media.new) }
-    ensures sink_failed { result ≡ SinkFailed → Rose (W.seen sink.old).faults (W.seen sink.new).faults }
+    // A call of the media, the source or the sink that fails ends the run, with the status that tells of it. Want of memory alone is free.
+    ensures device_faults { M.faults media.new ≡ device_faults result (M.faults media.old) }
+    ensures source_faults { (R.seen source.new).faults ≡ source_faults result (R.seen source.old).faults }
+    ensures sink_faults { (W.seen sink.new).faults ≡ sink_faults result (W.seen sink.old).faults }
 
     // What is written, and what is made.
     ensures put { PutsFor (request_of (texts words.now)) result (W.seen sink.old) (W.seen sink.new) }
@@ -42,8 +43,8 @@ pub fn run<M: Media, R: Source, W: Sink>(
 
     // A session.
     ensures served { IfServe (request_of (texts words.now)) (λ image. Serves M.tells image
-        (ends_of (R.seen source.old) (W.seen sink.old) (M.fixed media.old) (M.state media.old) (M.past media.old) (M.faults media.old))
-        (ends_of (R.seen source.new) (W.seen sink.new) (M.fixed media.new) (M.state media.new) (M.past media.new) (M.faults media.new))
+        (ends_of (R.seen source.old) (W.seen sink.old) (M.fixed media.old) (M.state media.old) (M.past media.old))
+        (ends_of (R.seen source.new) (W.seen sink.new) (M.fixed media.new) (M.state media.new) (M.past media.new))
         result) }
 
     // What stays.
@@ -51,7 +52,6 @@ pub fn run<M: Media, R: Source, W: Sink>(
         KeepsOthers request (M.fixed media.old) (M.state media.old) (M.fixed media.new) (M.state media.new)) }
     ensures untouched { request_of (texts words.now) ≡ None → media.new ≡ media.old }
     ensures source { ¬ IsServe (request_of (texts words.now)) → source.new ≡ source.old }
-    ensures never_falls { M.faults media.old ≤ M.faults media.new }
 {
     match read_words(words) {
         Some(Request::Format { image, geometry }) => format_image(image, &geometry, media, sink),
@@ -64,7 +64,7 @@ pub fn run<M: Media, R: Source, W: Sink>(
 fn refuse<W: Sink>(sink: &mut W) -> Status
     ensures status { (result ≡ Usage) ⊎ (result ≡ SinkFailed) }
     ensures put { PutsBy result usage_text (W.seen sink.old) (W.seen sink.new) }
-    ensures sink_failed { result ≡ SinkFailed → Rose (W.seen sink.old).faults (W.seen sink.new).faults }
+    ensures sink_faults { (W.seen sink.new).faults ≡ sink_faults result (W.seen sink.old).faults }
 {
     match put_usage(sink) {
         Ok(()) => Status::Usage,
@@ -80,13 +80,12 @@ fn format_image<M: Media, W: Sink>(
     sink: &mut W,
 ) -> Status
     ensures not_usage { result ≡ Usage → ⊥ }
-    ensures device { result ≡ Device → Rose (M.faults media.old) (M.faults media.new) }
-    ensures sink_failed { result ≡ SinkFailed → Rose (W.seen sink.old).faults (W.seen sink.new).faults }
+    ensures device_faults { M.faults media.new ≡ device_faults result (M.faults media.old) }
+    ensures sink_faults { (W.seen sink.new).faults ≡ sink_faults result (W.seen sink.old).faults }
     ensures put { PutsBy result (formatted_text (area_size (layout_of geometry.now) - 2)) (W.seen sink.old) (W.seen sink.new) }
     ensures made { IsActionDone result → IsTrue M.tells → IsMade (Format image.now (layout_of geometry.now)) (M.fixed media.new) (M.state media.new) }
     ensures moments { IsTrue M.tells → Adds (M.past media.old) (M.past media.new) (IsDuring (Format image.now (layout_of geometry.now)) (M.state media.new)) }
     ensures others { IsTrue M.tells → KeepsOthers (Format image.now (layout_of geometry.now)) (M.fixed media.old) (M.state media.old) (M.fixed media.new) (M.state media.new) }
-    ensures never_falls { M.faults media.old ≤ M.faults media.new }
 {
     match media.open(image, Some(geometry.blocks())) {
         Ok(()) => {}
@@ -103,7 +102,7 @@ fn format_image<M: Media, W: Sink>(
 fn tell<W: Sink>(sink: &mut W, free: u32) -> Status
     ensures status { (result ≡ Done) ⊎ (result ≡ SinkFailed) }
     ensures put { PutsBy result (formatted_text free) (W.seen sink.old) (W.seen sink.new) }
-    ensures sink_failed { result ≡ SinkFailed → Rose (W.seen sink.old).faults (W.seen sink.new).faults }
+    ensures sink_faults { (W.seen sink.new).faults ≡ sink_faults result (W.seen sink.old).faults }
 {
     match put_formatted(sink, free) {
         Ok(()) => Status::Done,

@@ -1,6 +1,7 @@
 //! A session over a volume: line after line is answered.
 ghost use Rattle.std.specs.Prelude.{◌≡◌, ◌<◌, ◌≤◌, Some, IsNone, IsTrue, length};
 ghost use Rattle.root_switch.specs.Root.{root_of};
+ghost use Rattle.command_server.specs.Faults.{device_faults, sink_faults, faults_then};
 ghost use Rattle.command_server.specs.Fits.{Fits};
 ghost use Rattle.command_server.specs.Session.{Session, point};
 ghost use Rattle.command_server.specs.Serving.{ended_by, left_by, text_in, no_text};
@@ -28,9 +29,11 @@ pub(crate) fn serve<D: Disk, W: Sink>(
     requires size { (root_of volume.old.current.body).layout.blocks ≡ (D.fixed disk.old).size }
     requires fits { IsTrue D.tells → Fits volume.old.current.slot (root_of volume.old.current.body) volume.old.names.items (D.state disk.old) }
     ensures session { Session (root_of volume.old.current.body).layout.log_blocks D.tells
-        (point (text_in text.now) (W.seen sink.old) volume.old.names.items (D.state disk.old) (D.past disk.old) (D.faults disk.old))
-        (point no_text (W.seen sink.new) volume.new.names.items (D.state disk.new) (D.past disk.new) (D.faults disk.new))
+        (point (text_in text.now) (W.seen sink.old) volume.old.names.items (D.state disk.old) (D.past disk.old))
+        (point no_text (W.seen sink.new) volume.new.names.items (D.state disk.new) (D.past disk.new))
         (Some result) }
+    ensures device_faults { D.faults disk.new ≡ device_faults result (D.faults disk.old) }
+    ensures sink_faults { (W.seen sink.new).faults ≡ sink_faults result (W.seen sink.old).faults }
     ensures fixed { D.fixed disk.new ≡ D.fixed disk.old }
 {
     let mut rest = text;
@@ -52,9 +55,11 @@ fn serve_line<'a, D: Disk, W: Sink>(
     requires size { (root_of volume.old.current.body).layout.blocks ≡ (D.fixed disk.old).size }
     requires fits { IsTrue D.tells → Fits volume.old.current.slot (root_of volume.old.current.body) volume.old.names.items (D.state disk.old) }
     ensures session { Session (root_of volume.old.current.body).layout.log_blocks D.tells
-        (point (text_in text.now) (W.seen sink.old) volume.old.names.items (D.state disk.old) (D.past disk.old) (D.faults disk.old))
-        (point (left_by result) (W.seen sink.new) volume.new.names.items (D.state disk.new) (D.past disk.new) (D.faults disk.new))
+        (point (text_in text.now) (W.seen sink.old) volume.old.names.items (D.state disk.old) (D.past disk.old))
+        (point (left_by result) (W.seen sink.new) volume.new.names.items (D.state disk.new) (D.past disk.new))
         (ended_by result) }
+    ensures device_faults { D.faults disk.new ≡ faults_then device_faults (ended_by result) (D.faults disk.old) }
+    ensures sink_faults { (W.seen sink.new).faults ≡ faults_then sink_faults (ended_by result) (W.seen sink.old).faults }
     ensures layout { (root_of volume.new.current.body).layout ≡ (root_of volume.old.current.body).layout }
     ensures fits { IsNone (ended_by result) → IsTrue D.tells → Fits volume.new.current.slot (root_of volume.new.current.body) volume.new.names.items (D.state disk.new) }
     ensures shorter { IsNone (ended_by result) → length (left_by result).bytes < length text.now }

@@ -1,6 +1,6 @@
 //! The trait of a sink: where the answers of a session go.
-ghost use Rattle.std.specs.Prelude.{OnOk, OnErr, IsErr};
-ghost use Rattle.vol_numbers.specs.Cause.{Rose};
+ghost use Rattle.std.specs.Prelude.{OnOk, OnErr};
+ghost use Rattle.vol_numbers.specs.Cause.{HasCause};
 ghost use Rattle.command_server.specs.Ends.{Output, Puts, PutsPart};
 
 use thiserror::Error;
@@ -19,5 +19,5 @@ pub trait Sink {
     fn put(&mut self, bytes: &[u8]) -> Result<(), SinkFault>
         ensures put { OnOk result (Puts (seen self.old) (seen self.new) bytes.now) }
         ensures part { OnErr result (PutsPart (seen self.old) (seen self.new) bytes.now) }
-        ensures cause { IsErr result → Rose (seen self.old).faults (seen self.new).faults };
+        ensures cause { HasCause (seen self.old).faults (seen self.new).faults result };
 }

@@ -1,6 +1,6 @@
 //! The trait of a source: where the bytes of a session come from.
-ghost use Rattle.std.specs.Prelude.{◌≡◌, ◌<◌, ◌≤◌, [], take, length, IfOk, OnErr, IsErr, IsTrue};
-ghost use Rattle.vol_numbers.specs.Cause.{Rose};
+ghost use Rattle.std.specs.Prelude.{◌≡◌, ◌<◌, ◌≤◌, [], take, length, IfOk, OnErr, IsTrue};
+ghost use Rattle.vol_numbers.specs.Cause.{HasCause};
 ghost use Rattle.command_server.specs.Ends.{Input, Takes};
 
 use thiserror::Error;
@@ -22,5 +22,5 @@ pub trait Source {
         ensures taken { IfOk result (λ count. Takes (seen self.old) (seen self.new) (take count into.new)) }
         ensures at_end { IfOk result (λ count. count ≡ 0 → 0 < length into.new → IsTrue (seen self.old).is_told → (seen self.old).left ≡ []) }
         ensures err { OnErr result (Takes (seen self.old) (seen self.new) []) }
-        ensures cause { IsErr result → Rose (seen self.old).faults (seen self.new).faults };
+        ensures cause { HasCause (seen self.old).faults (seen self.new).faults result };
 }

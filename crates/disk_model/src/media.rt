@@ -1,6 +1,6 @@
 //! The trait of a medium: named images, one of which is open as a disk.
-ghost use Rattle.std.specs.Prelude.{◌≡◌, ◌≢◌, ◌⊎◌, ◌≤◌, ℕ, List, None, Some, IfSome, OnOk, OnErr, IsTrue, IsErrOf};
-ghost use Rattle.vol_numbers.specs.Cause.{Rose};
+ghost use Rattle.std.specs.Prelude.{◌≡◌, ◌≢◌, ◌⊎◌, ℕ, List, None, Some, IfSome, OnOk, OnErr, IsTrue, IsErrOf};
+ghost use Rattle.vol_numbers.specs.Cause.{raised};
 ghost use Rattle.disk_model.specs.Disk.{blank};
 ghost use Rattle.disk_model.specs.Past.{Adds};
 ghost use Rattle.disk_model.specs.Media.{image_named};
@@ -35,6 +35,7 @@ pub trait Media: Disk {
         // The only moment that is added is the one after the call.
         ensures moments { Adds (Self.past self.old) (Self.past self.new) (λ s. s ≡ Self.state self.new) }
         ensures given { Self.given self.new ≡ Self.given self.old }
-        ensures never_falls { Self.faults self.old ≤ Self.faults self.new }
-        ensures cause { IsErrOf result Failed → Rose (Self.faults self.old) (Self.faults self.new) };
+        // It fails only where it counts a fault, and counts none otherwise.
+        ensures failed { IsErrOf result Failed → Self.faults self.new ≡ raised (Self.faults self.old) }
+        ensures kept { ¬ IsErrOf result Failed → Self.faults self.new ≡ Self.faults self.old };
 }

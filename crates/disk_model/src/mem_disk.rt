@@ -1,8 +1,8 @@
 //! A disk in memory that fails by a plan, and loses what a power cut takes.
-ghost use Rattle.std.specs.Prelude.{◌≡◌, ◌<◌, ◌≤◌, [], refl, true, ◌↔◌, IsErr, IsOk, OnOk, OnErr, IsTrue, IfOk, Some, slice_get};
+ghost use Rattle.std.specs.Prelude.{◌≡◌, ◌<◌, ◌≤◌, [], refl, true, ◌↔◌, IsErr, IsOk, OnOk, OnErr, IsTrue, IsFalse, IfOk, Some, slice_get};
 ghost use Rattle.std.specs.List.{All};
 ghost use Rattle.vol_numbers.specs.Block.{zero_block, block_of};
-ghost use Rattle.vol_numbers.specs.Cause.{HasCause, Rose};
+ghost use Rattle.vol_numbers.specs.Cause.{HasCause, raised};
 ghost use Rattle.vol_numbers.specs.Plan.{no_plan, IsPlanned, advanced};
 ghost use Rattle.disk_model.specs.Disk.{blank, is_among, picked, written, synced, IsImage, DuringWrite, DuringSync, Gives};
 ghost use Rattle.disk_model.specs.Past.{Adds, Keeps, HasBegun};
@@ -150,8 +150,8 @@ impl MemDisk {
 fn fails_now(plan: &mut CallPlan, faults: &mut FaultCount) -> bool
     ensures planned { IsTrue result ↔ IsPlanned plan.old }
     ensures next { plan.new ≡ advanced plan.old }
-    ensures never_falls { faults.old ≤ faults.new }
-    ensures rose { IsTrue result → Rose faults.old faults.new }
+    ensures counted { IsTrue result → faults.new ≡ raised faults.old }
+    ensures kept { IsFalse result → faults.new ≡ faults.old }
 {
     let fails = plan.fails_now();
     if fails {

@@ -1,7 +1,7 @@
 //! Named disks in memory, one of which is open.
 ghost use Rattle.std.specs.Prelude.{◌≡◌, ◌≢◌, ◌⊎◌, ◌≤◌, ◌↔◌, ◌+◌, refl, ℕ, List, None, Some, IfSome, IsSome, IsNone, OnOk, OnErr, IsTrue, IsErrOf, true, is_some, IfOk, string_bytes, vec_len, vec_capacity, ◌<◌, option_map, slice_get};
 ghost use Rattle.vol_numbers.specs.Block.{zero_block};
-ghost use Rattle.vol_numbers.specs.Cause.{Rose};
+ghost use Rattle.vol_numbers.specs.Cause.{raised};
 ghost use Rattle.std.specs.Option.{option_copied_mut};
 ghost use Rattle.std.specs.Borrow.{sem};
 ghost use Rattle.disk_model.specs.Disk.{blank};
@@ -246,8 +246,8 @@ impl Media for MemMedia {
             → image_named (⟦<MemMedia as Disk>⟧.fixed self.new) (⟦<MemMedia as Disk>⟧.state self.new) other ≡ image_named (⟦<MemMedia as Disk>⟧.fixed self.old) (⟦<MemMedia as Disk>⟧.state self.old) other }
         ensures moments { Adds (⟦<MemMedia as Disk>⟧.past self.old) (⟦<MemMedia as Disk>⟧.past self.new) (λ s. s ≡ ⟦<MemMedia as Disk>⟧.state self.new) }
         ensures given { ⟦<MemMedia as Disk>⟧.given self.new ≡ ⟦<MemMedia as Disk>⟧.given self.old }
-        ensures never_falls { ⟦<MemMedia as Disk>⟧.faults self.old ≤ ⟦<MemMedia as Disk>⟧.faults self.new }
-        ensures cause { IsErrOf result Failed → Rose (⟦<MemMedia as Disk>⟧.faults self.old) (⟦<MemMedia as Disk>⟧.faults self.new) }
+        ensures failed { IsErrOf result Failed → ⟦<MemMedia as Disk>⟧.faults self.new ≡ raised (⟦<MemMedia as Disk>⟧.faults self.old) }
+        ensures kept { ¬ IsErrOf result Failed → ⟦<MemMedia as Disk>⟧.faults self.new ≡ ⟦<MemMedia as Disk>⟧.faults self.old }
         // It answers `Failed` exactly where it is given None and a name that no image has.
         ensures absent { IsErrOf result Failed ↔ ((blocks ≡ None) × (image_named (⟦<MemMedia as Disk>⟧.fixed self.old) (⟦<MemMedia as Disk>⟧.state self.old) name.now ≡ None)) }
         // A failure changes no image and closes none.

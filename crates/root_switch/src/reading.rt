@@ -1,6 +1,6 @@
 //! Reads the current root.
 ghost use Rattle.std.specs.Prelude.{◌≡◌, ◌<◌, ◌≤◌, ◌+◌, IfOk, IfSome, IsErrOf, IsTrue, slice_get};
-ghost use Rattle.vol_numbers.specs.Cause.{HasCause, Rose};
+ghost use Rattle.vol_numbers.specs.Cause.{HasCause, raised};
 ghost use Rattle.disk_model.specs.Past.{Adds};
 ghost use Rattle.root_switch.specs.Root.{root_of, root_in, HasShape, HasGeometry, SpellsRoot};
 ghost use Rattle.root_switch.specs.Current.{current_slot, root_of_image, HasRoot, FitsImage};
@@ -36,7 +36,8 @@ pub fn read_current<D: Disk>(disk: &mut D) -> Result<Current, RootFault>
         × (c.slot ≡ current_slot (D.state disk.old).contents) × (root_of c.body ≡ root_of_image (D.state disk.old).contents)) }
     ensures no_root { IsErrOf result NoRoot → IsTrue D.tells → HasRoot (D.state disk.old).contents → ⊥ }
     ensures bad_geometry { IsErrOf result BadGeometry → IsTrue D.tells → HasRoot (D.state disk.old).contents × (FitsImage (D.state disk.old).contents → ⊥) }
-    ensures device { IsErrOf result Device → Rose (D.faults disk.old) (D.faults disk.new) }
+    ensures device { IsErrOf result Device → D.faults disk.new ≡ raised (D.faults disk.old) }
+    ensures kept { ¬ IsErrOf result Device → D.faults disk.new ≡ D.faults disk.old }
 
     // On every disk the root is within its rules and of as many blocks as there are.
     ensures slot { IfOk result (λ c. c.slot < 2) }
@@ -46,7 +47,6 @@ pub fn read_current<D: Disk>(disk: &mut D) -> Result<Current, RootFault>
     ensures same { IsTrue D.tells → D.state disk.new ≡ D.state disk.old }
     ensures moments { IsTrue D.tells → Adds (D.past disk.old) (D.past disk.new) (λ s. s ≡ D.state disk.old) }
     ensures fixed { D.fixed disk.new ≡ D.fixed disk.old }
-    ensures never_falls { D.faults disk.old ≤ D.faults disk.new }
 {
     if disk.blocks() < 3 {
         return Err(RootFault::NoRoot);
@@ -86,11 +86,11 @@ fn read_slot<D: Disk>(disk: &mut D, slot: u32) -> Result<RootBody, RootFault>
     ensures grammar { IfOk result (λ body. HasGeometry (root_of body)) }
     ensures no_root { IsErrOf result NoRoot → IsTrue D.tells → IfSome (slice_get (D.state disk.old).contents (1 + slot)) (λ block. HasShape block.bytes → ⊥) }
     ensures bad_geometry { IsErrOf result BadGeometry → IsTrue D.tells → IfSome (slice_get (D.state disk.old).contents (1 + slot)) (λ block. HasShape block.bytes × (HasGeometry (root_in block.bytes) → ⊥)) }
-    ensures device { IsErrOf result Device → Rose (D.faults disk.old) (D.faults disk.new) }
+    ensures device { IsErrOf result Device → D.faults disk.new ≡ raised (D.faults disk.old) }
+    ensures kept { ¬ IsErrOf result Device → D.faults disk.new ≡ D.faults disk.old }
     ensures same { IsTrue D.tells → D.state disk.new ≡ D.state disk.old }
     ensures moments { IsTrue D.tells → Adds (D.past disk.old) (D.past disk.new) (λ s. s ≡ D.state disk.old) }
     ensures fixed { D.fixed disk.new ≡ D.fixed disk.old }
-    ensures never_falls { D.faults disk.old ≤ D.faults disk.new }
 {
     let mut block = Block::zero();
     if let Err(DiskFault) = disk.read_block(1 + slot, &mut block) {

@@ -1,10 +1,10 @@
--- The causes of faults. Each device, source and sink has a count of its faults, a u64 that never falls and stands still at its greatest value.
--- A fault is answered only where that count rose in the call.
-use Rattle.std.specs.Prelude.{◌≤◌, ◌+◌, ◌-◌, ◌^◌, ℕ, min, Result, IsErr}
+-- The causes of faults. Each device, source and sink counts its faults in a u64, which stands still at its greatest value.
+-- A call that fails counts one fault. A call that succeeds counts none.
+use Rattle.std.specs.Prelude.{◌≡◌, ◌≤◌, ◌+◌, ◌-◌, ◌^◌, ℕ, min, max, Result, Ok, Err}
 
 -- the count after one fault more
 abbrev pub raised : ℕ → ℕ
-raised count = min (count + 1) (2 ^ 64 - 1)
+raised count = max count (min (count + 1) (2 ^ 64 - 1))
 
 -- a count rose by at least n, or stands at its greatest value
 abbrev pub RoseBy : ℕ → ℕ → ℕ → Type 0
@@ -14,7 +14,7 @@ RoseBy n old new = min (old + n) (2 ^ 64 - 1) ≤ new
 abbrev pub Rose : ℕ → ℕ → Type 0
 Rose old new = RoseBy 1 old new
 
--- the count doesn't fall, and an error comes only where it rose
-pub record HasCause {T E : Type 0} (old new : ℕ) (result : Result T E) : Type 0 where
-  pub never_falls : old ≤ new
-  pub rose : IsErr result → Rose old new
+-- a call that failed is counted, and nothing else
+abbrev pub HasCause : {T E : Type 0} → ℕ → ℕ → Result T E → Type 0
+HasCause old new (Ok value) = new ≡ old
+HasCause old new (Err fault) = new ≡ raised old

@@ -1,6 +1,6 @@
 //! How often a device, a source or a sink has failed.
-ghost use Rattle.std.specs.Prelude.{◌≡◌, ◌≤◌, ℕ};
-ghost use Rattle.vol_numbers.specs.Cause.{raised, Rose};
+ghost use Rattle.std.specs.Prelude.{◌≡◌, ℕ};
+ghost use Rattle.vol_numbers.specs.Cause.{raised};
 
 use std::marker::Model;
 
@@ -28,9 +28,7 @@ impl FaultCount {
 
     /// Counts one fault more.
     pub fn raise(&mut self)
-        ensures is { self.new ≡ raised self.old }
-        ensures never_falls { self.old ≤ self.new }
-        ensures rose { Rose self.old self.new }
+        ensures { self.new ≡ raised self.old }
     {
         self.count = self.count.saturating_add(1);
     }

@@ -1,4 +1,4 @@
-use Rattle.std.proofs.Common.{◌≡◌, ◌∙◌, ap, arith, length}
+use Rattle.std.proofs.Common.{◌≡◌, ◌∙◌, ap, length, refl}
 use Rattle.disk_model.specs.Media.{Fixed}
 use Rattle.disk_model.proofs.Moments.{adds_none}
 use Rattle.vol_numbers.specs.Geometry.{layout_of}
@@ -10,7 +10,7 @@ loop-i-init g c = record {
   state = λ tells. with_counts-zero (layout_of c.args.g.now) (g.D.Disk.state c.args.disk.now);
   moments = λ tells. adds_none _ (IsLong c.args.g.now.blocks);
   fixed = λ i. g.D.Disk.fixed c.args.disk.now;
-  never_falls = omega arith;
+  faults = refl;
 }
 
 pub loop-i-preserved : goal.loop-i-preserved
@@ -23,5 +23,5 @@ loop-i-preserved g c =
           g.met.D.Disk.has_size c.loop-i.disk tells ∙ ap (λ (f : Fixed). f.size) so_far.fixed ∙ c.requires in
           adds_long c.args.g.now.blocks (so_far.moments tells) long c.write_block.ensures.moments;
       fixed = c.write_block.ensures.fixed ∙ so_far.fixed;
-      never_falls = omega (arith, so_far.never_falls, c.write_block.ensures.cause.never_falls);
+      faults = c.in_ok-write_block.ensures.cause ∙ so_far.faults;
     }

@@ -11,5 +11,5 @@ invariant-loop-i g l = record {
   state : IsTrue g.D.Disk.tells → g.D.Disk.state l.disk ≡ with_counts (layout_of l.g) l.i (g.D.Disk.state l.fn.disk);
   moments : IsTrue g.D.Disk.tells → Adds (g.D.Disk.past l.fn.disk) (g.D.Disk.past l.disk) (IsLong l.g.blocks);
   fixed : g.D.Disk.fixed l.disk ≡ g.D.Disk.fixed l.fn.disk;
-  never_falls : g.D.Disk.faults l.fn.disk ≤ g.D.Disk.faults l.disk;
+  faults : g.D.Disk.faults l.disk ≡ g.D.Disk.faults l.fn.disk;
 }

@@ -1,4 +1,4 @@
-use Rattle.std.proofs.Common.{◌≤◌, ◌-◌, ℕ, List, length}
+use Rattle.std.proofs.Common.{◌≡◌, ◌≤◌, ◌-◌, ℕ, List, length}
 use Rattle.command_server.specs.Ends.{Input, Takes}
 use Rattle.command_server.proofs.input.read_input.Given as goal
 
@@ -6,6 +6,7 @@ use Rattle.command_server.proofs.input.read_input.Given as goal
 pub record TakenSoFar (old new : Input) (bytes : List ℕ) : Type 0 where
   pub takes : Takes old new bytes
   pub within : length bytes ≤ 65536
+  pub faults : new.faults ≡ old.faults
 
 abbrev pub invariant-pieces : goal.invariant-pieces
 invariant-pieces g l = TakenSoFar (g.R.Source.seen l.initial.source) (g.R.Source.seen l.source) l.bytes.items

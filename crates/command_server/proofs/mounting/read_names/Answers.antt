@@ -38,7 +38,7 @@ loop-i-preserved g c =
       same = λ tells. next.same tells ∙ so_far.same tells;
       moments = λ tells. adds_read (so_far.moments tells) (so_far.same tells) (next.moments tells);
       fixed = next.fixed ∙ so_far.fixed;
-      never_falls = omega (arith, so_far.never_falls, next.cause.never_falls);
+      faults = next.cause ∙ so_far.faults;
     }
 
 pub returns-in-Ok-None-clause-found : goal.returns-in-Ok-None-clause-found

@@ -12,5 +12,5 @@ invariant-loop-i g l = record {
   same : IsTrue g.D.Disk.tells → g.D.Disk.state l.disk ≡ g.D.Disk.state l.fn.disk;
   moments : IsTrue g.D.Disk.tells → Adds (g.D.Disk.past l.fn.disk) (g.D.Disk.past l.disk) (λ s. s ≡ g.D.Disk.state l.fn.disk);
   fixed : g.D.Disk.fixed l.disk ≡ g.D.Disk.fixed l.fn.disk;
-  never_falls : g.D.Disk.faults l.fn.disk ≤ g.D.Disk.faults l.disk;
+  faults : g.D.Disk.faults l.disk ≡ g.D.Disk.faults l.fn.disk;
 }

@@ -9,7 +9,7 @@ use Rattle.command_server.proofs.opening.serve_image.Goals as goal
 pub returns-in-Ok-mount-clause-served : goal.returns-in-Ok-mount-clause-served
 returns-in-Ok-mount-clause-served g c =
     inr (served (λ is. c.in-Ok.ensures.found is refl) (λ is other. ap (λ (f : Fixed). image_named f (g.M.Disk.state c.open.new.self) other) c.mount.ensures.fixed ∙ c.in-Ok.ensures.others is other (inr refl))
-    c.in-Ok.ensures.moments c.mount.ensures.moments c.in-Ok-mount.ensures.fits c.in-Ok-mount.ensures.synced (omega (arith, c.in-Ok.ensures.never_falls, c.mount.ensures.never_falls))
+    c.in-Ok.ensures.moments c.mount.ensures.moments c.in-Ok-mount.ensures.fits c.in-Ok-mount.ensures.synced
     c.serve_input.ensures.fixed c.serve_input.ensures.answered)
 
 pub returns-in-Err-Found-clause-served : goal.returns-in-Err-Found-clause-served
@@ -19,5 +19,5 @@ returns-in-Err-Found-clause-served g c = let mount = rw c.in-Err-Found.field-0-i
       (λ is other. ap (λ (f : Fixed). image_named f (g.M.Disk.state c.open.new.self) other) c.mount.ensures.fixed ∙ c.in-Ok.ensures.others is other (inr refl))
       c.in-Ok.ensures.moments c.mount.ensures.same c.mount.ensures.moments;
   cause = found_cause g.M.Disk.tells _ _ _ c.tell_finding.result c.in-Err-Found.finding
-      (λ is. subst (λ (o : Option State). IsSomeAnd o (λ s. Finds s.contents c.in-Err-Found.finding)) (sym (c.in-Ok.ensures.found is refl)) (mount.found is)) (rw c.in-Err-Found.field-0-is at c.tell_finding.ensures);
+      (λ is. subst (λ (o : Option State). IsSomeAnd o (λ s. Finds s.contents c.in-Err-Found.finding)) (sym (c.in-Ok.ensures.found is refl)) (mount.found is)) (rw c.in-Err-Found.field-0-is at c.tell_finding.ensures.tells);
 })

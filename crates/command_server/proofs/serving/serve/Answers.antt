@@ -12,6 +12,8 @@ loop-behind-init g c = record {
   layout = λ i. layout_of c.args.volume.now.current.body.geometry;
   fits = c.requires.fits;
   fixed = λ i. g.D.Disk.fixed c.args.disk.now;
+  device = refl;
+  sink = refl;
   so_far = nothing_read c.requires.fits (refl, refl);
 }
 
@@ -22,9 +24,11 @@ loop-behind-preserved g c =
       layout = c.serve_line.ensures.layout ∙ so_far.layout;
       fits = c.in-GoesOn.ensures.fits refl;
       fixed = c.serve_line.ensures.fixed ∙ so_far.fixed;
+      device = c.in-GoesOn.ensures.device_faults ∙ so_far.device;
+      sink = c.in-GoesOn.ensures.sink_faults ∙ so_far.sink;
       so_far = session_then so_far.so_far (subst (λ (n : ℕ). Session n g.D.Disk.tells
-          (point (text_in c.loop-behind.rest.now) (g.W.Sink.seen c.loop-behind.sink) c.loop-behind.volume.names.items (g.D.Disk.state c.loop-behind.disk) (g.D.Disk.past c.loop-behind.disk) (g.D.Disk.faults c.loop-behind.disk))
-          (point (text_in c.in-GoesOn.behind.now) (g.W.Sink.seen c.serve_line.new.sink) c.serve_line.new.volume.names.items (g.D.Disk.state c.serve_line.new.disk) (g.D.Disk.past c.serve_line.new.disk) (g.D.Disk.faults c.serve_line.new.disk))
+          (point (text_in c.loop-behind.rest.now) (g.W.Sink.seen c.loop-behind.sink) c.loop-behind.volume.names.items (g.D.Disk.state c.loop-behind.disk) (g.D.Disk.past c.loop-behind.disk))
+          (point (text_in c.in-GoesOn.behind.now) (g.W.Sink.seen c.serve_line.new.sink) c.serve_line.new.volume.names.items (g.D.Disk.state c.serve_line.new.disk) (g.D.Disk.past c.serve_line.new.disk))
           None) (ap (λ (l : Layout). l.log_blocks) so_far.layout) c.in-GoesOn.ensures.session);
     }
 
@@ -32,6 +36,6 @@ pub returns-in-Ends-clause-session : goal.returns-in-Ends-clause-session
 returns-in-Ends-clause-session g c =
     let so_far = c.loop-behind.invariant in
     session_then so_far.so_far (subst (λ (n : ℕ). Session n g.D.Disk.tells
-    (point (text_in c.loop-behind.rest.now) (g.W.Sink.seen c.loop-behind.sink) c.loop-behind.volume.names.items (g.D.Disk.state c.loop-behind.disk) (g.D.Disk.past c.loop-behind.disk) (g.D.Disk.faults c.loop-behind.disk))
-    (point no_text (g.W.Sink.seen c.serve_line.new.sink) c.serve_line.new.volume.names.items (g.D.Disk.state c.serve_line.new.disk) (g.D.Disk.past c.serve_line.new.disk) (g.D.Disk.faults c.serve_line.new.disk))
+    (point (text_in c.loop-behind.rest.now) (g.W.Sink.seen c.loop-behind.sink) c.loop-behind.volume.names.items (g.D.Disk.state c.loop-behind.disk) (g.D.Disk.past c.loop-behind.disk))
+    (point no_text (g.W.Sink.seen c.serve_line.new.sink) c.serve_line.new.volume.names.items (g.D.Disk.state c.serve_line.new.disk) (g.D.Disk.past c.serve_line.new.disk))
     (Some c.in-Ends.status)) (ap (λ (l : Layout). l.log_blocks) so_far.layout) c.in-Ends.ensures.session)

@@ -1,6 +1,6 @@
-use Rattle.std.proofs.Common.{◌≡◌, ◌≢◌, List, [], ap, sym, ◌∙◌, ℕ}
+use Rattle.std.proofs.Common.{ap, sym, ◌∙◌}
 use Rattle.std.proofs.lemmas.Result.{on_err_weaker}
-use Rattle.disk_model.specs.Disk.{State, written, DuringWrite}
+use Rattle.disk_model.specs.Disk.{State}
 use Rattle.disk_model.proofs.Moments.{torn_unsynced, included-some}
 use Rattle.std.specs.Prelude.{Result, Ok, Err, OnErr}
 use Rattle.disk_model.proofs.durable.write_through.Goals as goal

@@ -11,5 +11,4 @@ returns-clause-taken c = record {
       let left = drop at c.args.self.now.bytes in
       let taken : take count left ≡ take count c.copy_some-count.new.into = ap (λ (l : List ℕ). take count (drop at l)) (sym c.as_slice.ensures) ∙ sym c.copy_some-count.ensures.copied in
       sym (take-append-drop count left) ∙ ap (λ (l : List ℕ). l ++ drop count left) taken ∙ ap (λ (l : List ℕ). take count c.copy_some-count.new.into ++ l) (drop-drop count at c.args.self.now.bytes);
-  never_falls = omega arith;
 }
