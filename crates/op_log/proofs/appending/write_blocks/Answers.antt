@@ -48,5 +48,5 @@ loop-i-preserved g c =
           (changes_write first c.args.count s m (first + i) during.block (so_far.changes tells) (omega arith) (omega (arith, c.loop-i-test.true))));
       fixed = c.in_ok-write_block.ensures.fixed ∙ so_far.fixed;
       given = c.in_ok-write_block.ensures.given ∙ so_far.given;
-      never_falls = omega (arith, so_far.never_falls, c.in_ok-write_block.ensures.cause.never_falls);
+      faults = c.in_ok-write_block.ensures.cause ∙ so_far.faults;
     }

@@ -1,4 +1,4 @@
-use Rattle.std.proofs.Common.{◌≡◌, ◌<◌, ◌≤◌, ◌+◌, ◌++◌, ℕ, IsTrue, true}
+use Rattle.std.proofs.Common.{◌≡◌, ◌<◌, ◌+◌, ◌++◌, ℕ, IsTrue, true}
 use Rattle.std.specs.Prelude.{slice_get, Some}
 use Rattle.disk_model.specs.Disk.{is_among}
 use Rattle.disk_model.specs.Past.{Adds}
@@ -14,5 +14,5 @@ invariant-loop-i g l = record {
   during : IsTrue g.D.Disk.tells → Adds (g.D.Disk.past l.fn.disk) (g.D.Disk.past l.disk) (ChangesWithin l.first l.count (g.D.Disk.state l.fn.disk));
   fixed : g.D.Disk.fixed l.disk ≡ g.D.Disk.fixed l.fn.disk;
   given : g.D.Disk.given l.disk ≡ g.D.Disk.given l.fn.disk;
-  never_falls : g.D.Disk.faults l.fn.disk ≤ g.D.Disk.faults l.disk;
+  faults : g.D.Disk.faults l.disk ≡ g.D.Disk.faults l.fn.disk;
 }
