@@ -1,4 +1,5 @@
+pub mod ChangeLemmas
 pub mod DraftLemmas
+pub mod NameLemmas
 pub mod PathLemmas
 pub mod PieceLemmas
-pub mod ChangeLemmas

@@ -1,3 +1,5 @@
 pub mod Append
+pub mod Fault
 pub mod Log
+pub mod Reading
 pub mod Record

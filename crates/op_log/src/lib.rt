@@ -3,8 +3,13 @@
 
 mod appending;
 mod blocks;
+mod decoding;
 mod draft;
+mod fault;
+mod head;
+mod names;
 mod spelling;
 
 pub use appending::append;
 pub use blocks::record_blocks;
+pub use fault::LogFault;
