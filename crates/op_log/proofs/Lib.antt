@@ -3,3 +3,4 @@ pub mod DraftLemmas
 pub mod NameLemmas
 pub mod PathLemmas
 pub mod PieceLemmas
+pub mod RecordLemmas
