@@ -3,4 +3,5 @@ pub mod DraftLemmas
 pub mod NameLemmas
 pub mod PathLemmas
 pub mod PieceLemmas
+pub mod ReadLemmas
 pub mod RecordLemmas

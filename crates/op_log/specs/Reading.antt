@@ -3,7 +3,8 @@ use Rattle.std.specs.Prelude.{◌≡◌, ◌<◌, ◌≤◌, ℕ, ◌+◌, ◌*�
 use Rattle.byteorder.specs.Endian.{little_number}
 use Rattle.vol_numbers.specs.declared.block.Block.{Block}
 use Rattle.tree_model.specs.declared.command.Command.{Command}
-use Rattle.op_log.specs.Record.{Fields, blocks_for, record_blocks, record_block}
+use Rattle.op_log.specs.Log.{RecordStands}
+use Rattle.op_log.specs.Record.{Fields, HasRecord, blocks_for, record_blocks, record_block}
 use Rattle.op_log.specs.declared.head.Head.{Head}
 
 -- what the first 24 bytes say, whatever they are
@@ -50,3 +51,7 @@ pub record Spells (c : Command) (bytes : List ℕ) : Type 0 where
 pub record IsWhole (bytes : List ℕ) (left : ℕ) : Type 0 where
   pub long : length bytes ≡ 4096 * blocks_in (head_in bytes)
   pub within : blocks_in (head_in bytes) ≤ left
+
+-- no record of at most so many blocks stands from this block on
+abbrev pub NoRecordStands : List Block → ℕ → ℕ → Type 0
+NoRecordStands image at left = (c : Command) → HasRecord c → record_blocks c ≤ left → RecordStands image at c → ⊥

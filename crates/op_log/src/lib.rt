@@ -8,6 +8,7 @@ mod draft;
 mod fault;
 mod head;
 mod names;
+mod record_reading;
 mod spelling;
 
 pub use appending::append;
