@@ -1,5 +1,6 @@
 pub mod ChangeLemmas
 pub mod DraftLemmas
+pub mod LogLemmas
 pub mod NameLemmas
 pub mod PathLemmas
 pub mod PieceLemmas

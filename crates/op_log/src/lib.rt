@@ -8,9 +8,17 @@ mod draft;
 mod fault;
 mod head;
 mod names;
+mod reading;
 mod record_reading;
 mod spelling;
+
+use tree_model::Command;
+use vol_numbers::ItemList;
 
 pub use appending::append;
 pub use blocks::record_blocks;
 pub use fault::LogFault;
+pub use reading::read_all;
+
+/// Commands, in the order in which they were accepted.
+pub type CommandList = ItemList<Command>;
