@@ -6,3 +6,4 @@ pub mod PathLemmas
 pub mod PieceLemmas
 pub mod ReadLemmas
 pub mod RecordLemmas
+pub mod SpellingLaws

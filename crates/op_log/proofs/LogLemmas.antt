@@ -1,12 +1,15 @@
 -- One record more in a log.
-use Rattle.std.proofs.Common.{◌≡◌, ◌+◌, ◌-◌, ◌≤◌, ℕ, Bool, true, false, List, [], ◌∷◌, ◌++◌, length, sym, ap, subst, arith, add-zero}
-use Rattle.std.specs.Prelude.{if◌then◌else◌}
+use Rattle.std.proofs.Common.{◌≡◌, ◌∙◌, ◌+◌, ◌-◌, ◌<◌, ◌≤◌, ⊎_elim, ℕ, Bool, true, false, List, [], ◌∷◌, ◌++◌, length, refl, sym, ap, subst, arith, add-zero}
+use Rattle.std.specs.Prelude.{if◌then◌else◌, slice_get}
+use Rattle.std.proofs.lemmas.Bool.{cases_lt}
 use Rattle.vol_numbers.specs.declared.block.Block.{Block}
 use Rattle.tree_model.specs.declared.command.Command.{Command}
 use Rattle.tree_model.specs.declared.command.Command.TheVariants.{Mkdir, Create, Write, Truncate, Remove, Rename, Read, List as ListOf, Stat, Layout, Space, Checkpoint, End}
 use Rattle.op_log.specs.Log.{HoldsRecords, IsFirstBad, RecordStands, RecordsStand, blocks_of}
 use Rattle.op_log.specs.Record.{HasRecord, IsLogged, record_blocks}
+use Rattle.op_log.specs.Laws.{OneSpelling, OneLog, NoneBehindBad, UsedBlocksTell, OneRecordMore}
 use Rattle.op_log.specs.Reading.{NoRecordStands}
+use Rattle.op_log.proofs.SpellingLaws.{one_command}
 
 pub blocks_of-push : (cs : List Command) (c : Command) → blocks_of (cs ++ c ∷ []) ≡ blocks_of cs + record_blocks c
 blocks_of-push [] c = omega arith
@@ -63,3 +66,60 @@ has_logged End has = absurd has
 pub pushed : (xs ys : List Command) (x : Command) (b : Bool) → ys ≡ (if b then xs ++ x ∷ [] else xs) → b ≡ true → ys ≡ xs ++ x ∷ []
 pushed xs ys x true e is = e
 pushed xs ys x false e is = cc
+
+pub one_spelling : OneSpelling
+one_spelling image other at place c stands other_stands i lt = stands i lt ∙ sym (other_stands i lt)
+
+same_stand : (image : List Block) (at : ℕ) (cs ds : List Command) → RecordsStand image at cs → RecordsStand image at ds → length cs ≡ length ds → cs ≡ ds
+same_stand image at [] [] stand other long = refl
+same_stand image at [] (d ∷ ds) stand other long = absurd (omega arith)
+same_stand image at (c ∷ cs) [] stand other long = absurd (omega arith)
+same_stand image at (c ∷ cs) (d ∷ ds) stand other long =
+    let first : c ≡ d = one_command image at c d stand.0 other.0 stand.1 other.1 in
+    let rest : cs ≡ ds =
+    same_stand image (at + record_blocks c) cs ds stand.2 (subst (λ (n : ℕ). RecordsStand image n ds) (sym (ap (λ (b : Command). at + record_blocks b) first)) other.2) (omega arith) in
+    λ i. first i ∷ rest i
+
+pub one_log : OneLog
+one_log image first used cs ds holds other long = same_stand image first cs ds holds.stand other.stand long
+
+-- where more records stand, one stands behind these
+next_stands : (image : List Block) (at : ℕ) (bs cs : List Command) → RecordsStand image at bs → RecordsStand image at cs → length bs < length cs
+    → (c : Command) × RecordsStand image at (bs ++ c ∷ []) × (blocks_of (bs ++ c ∷ []) ≤ blocks_of cs)
+next_stands image at bs [] stand other lt = absurd (omega arith)
+next_stands image at [] (c ∷ cs) stand other lt = (c, (other.0, other.1, tt), omega arith)
+next_stands image at (b ∷ bs) (c ∷ cs) stand other lt =
+    let first : b ≡ c = one_command image at b c stand.0 other.0 stand.1 other.1 in
+    let next = next_stands image (at + record_blocks b) bs cs stand.2 (subst (λ (n : ℕ). RecordsStand image n cs) (sym (ap (λ (d : Command). at + record_blocks d) first)) other.2) (omega arith) in
+    (next.0, (stand.0, stand.1, next.1), omega (arith, next.2, ap record_blocks first))
+
+pub none_behind_bad : NoneBehindBad
+none_behind_bad image first used number cs bad holds = ⊎_elim
+    (λ lt.
+    let next = next_stands image first bad.before cs bad.good.stand holds.stand (omega (arith, bad.count, lt)) in
+    absurd (bad.none next.0 (record { stand = next.1; within = omega (arith, next.2, holds.within) })))
+    (λ le. le) (cases_lt number (length cs))
+
+tell : (image other : List Block) (at : ℕ) (cs : List Command) → RecordsStand image at cs → ((k : ℕ) → at ≤ k → k < at + blocks_of cs → slice_get other k ≡ slice_get image k) → RecordsStand other at cs
+tell image other at [] stand same = tt
+tell image other at (c ∷ cs) stand same = (
+  stand.0,
+  λ i lt. same (at + i) (omega arith) (omega (arith, lt)) ∙ stand.1 i lt,
+  tell image other (at + record_blocks c) cs stand.2 (λ k le lt. same k (omega (arith, le)) (omega (arith, lt))),
+)
+
+pub used_blocks_tell : UsedBlocksTell
+used_blocks_tell image other first used cs holds same = record {
+  stand = tell image other first cs holds.stand (λ k le lt. same k le (omega (arith, lt, holds.within)));
+  within = holds.within;
+}
+
+pub one_record_more : OneRecordMore
+one_record_more image first used cs c holds fill has stands =
+    let there : first + used ≡ first + blocks_of cs = omega (arith, fill) in (
+      record {
+        stand = records_stand-push image first cs c holds.stand has (subst (λ (n : ℕ). RecordStands image n c) there stands);
+        within = omega (arith, blocks_of-push cs c, fill);
+      },
+      omega (arith, blocks_of-push cs c, fill),
+    )

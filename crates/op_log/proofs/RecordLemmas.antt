@@ -102,7 +102,7 @@ text_front (suc n) text bytes blocks fits =
         ∙ ap (λ (l : List ℕ). filled (take 4096 l)) (sym (drop-drop (4096 * i) 4096 text ∙ ap (λ (k : ℕ). drop k text) at))
 
 -- the fields of bytes that begin with a text say what was spelled
-fields_in-text : (f : Fields) (bytes z : List ℕ) → FieldsFit f → bytes ≡ text_of f ++ z → fields_in bytes ≡ f
+pub fields_in-text : (f : Fields) (bytes z : List ℕ) → FieldsFit f → bytes ≡ text_of f ++ z → fields_in bytes ≡ f
 fields_in-text f bytes z fits is =
     let h : List ℕ = header_of f in
     let parts : bytes ≡ h ++ (f.path ++ (f.rest ++ z)) = is ∙ append_assoc (h ++ f.path) f.rest z ∙ append_assoc h f.path (f.rest ++ z) in
@@ -118,9 +118,13 @@ fields_in-text f bytes z fits is =
     fields_by : List ℕ → Head → Fields
     fields_by bytes h = record { kind = h.kind; number = h.number; path = take h.path_len (drop 24 bytes); rest = take h.rest_len (drop (24 + h.path_len) bytes) }
 
-text_fits : (f : Fields) → length (text_of f) ≤ 4096 * blocks_for (24 + length f.path + length f.rest)
-text_fits f =
+pub length-text : (f : Fields) → length (text_of f) ≡ 24 + length f.path + length f.rest
+length-text f =
     omega (arith, length-append (header_of f ++ f.path) f.rest, length-append (header_of f) f.path, length-header f.kind (length f.path) f.number (length f.rest))
+
+-- the blocks of a record have room for it
+pub text_fits : (f : Fields) → length (text_of f) ≤ 4096 * blocks_for (24 + length f.path + length f.rest)
+text_fits f = omega (arith, length-text f)
 
 -- the bytes of a record's blocks say what the record says
 pub spelled_fields : (c : Command) (bytes : List ℕ) → HasRecord c → Spells c bytes → fields_in bytes ≡ fields_of c

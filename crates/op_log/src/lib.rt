@@ -7,6 +7,7 @@ mod decoding;
 mod draft;
 mod fault;
 mod head;
+mod laws;
 mod names;
 mod reading;
 mod record_reading;
@@ -18,6 +19,9 @@ use vol_numbers::ItemList;
 pub use appending::append;
 pub use blocks::record_blocks;
 pub use fault::LogFault;
+pub use laws::{
+    none_behind_bad, one_command, one_log, one_record_more, one_spelling, used_blocks_tell,
+};
 pub use reading::read_all;
 
 /// Commands, in the order in which they were accepted.
