@@ -1,0 +1,28 @@
+//! The log of a volume: each accepted command as one record, written and read back.
+#![tactic(auto)]
+
+mod appending;
+mod blocks;
+mod decoding;
+mod draft;
+mod fault;
+mod head;
+mod laws;
+mod names;
+mod reading;
+mod record_reading;
+mod spelling;
+
+use tree_model::Command;
+use vol_numbers::ItemList;
+
+pub use appending::append;
+pub use blocks::record_blocks;
+pub use fault::LogFault;
+pub use laws::{
+    none_behind_bad, one_command, one_log, one_record_more, one_spelling, used_blocks_tell,
+};
+pub use reading::read_all;
+
+/// Commands, in the order in which they were accepted.
+pub type CommandList = ItemList<Command>;
