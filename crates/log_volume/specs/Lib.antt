@@ -1,0 +1,13 @@
+pub mod Answers
+pub mod Blocks
+pub mod Finding
+pub mod Fits
+pub mod Formatting
+pub mod Fresh
+pub mod Image
+pub mod Laws
+pub mod Logging
+pub mod Mounting
+pub mod Replay
+pub mod Replaying
+pub mod Stopping

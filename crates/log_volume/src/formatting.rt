@@ -1,0 +1,69 @@
+//! Makes a volume on a disk.
+ghost use Rattle.std.specs.Prelude.{◌≡◌, ◌<◌, ◌≤◌, ◌-◌, ◌+◌, ◌*◌, length, IfOk, OnOk, IsTrue};
+ghost use Rattle.vol_numbers.specs.Block.{zero_block};
+ghost use Rattle.vol_numbers.specs.Cause.{HasCause};
+ghost use Rattle.vol_numbers.specs.Layout.{count_blocks, area_start, area_size};
+ghost use Rattle.vol_numbers.specs.Geometry.{layout_of};
+ghost use Rattle.disk_model.specs.Past.{Adds};
+ghost use Rattle.log_volume.specs.Fresh.{root_block};
+ghost use Rattle.log_volume.specs.Formatting.{with_counts, with_inodes, with_root, with_selector, IsFormatted};
+
+use crate::fresh::{count_block, index_block, inode_block, root_block};
+use disk_model::{Disk, DiskFault, write_through};
+use vol_numbers::{Block, Geometry};
+
+/// Makes a volume whose tree is the empty root directory, and answers how many blocks are free. It takes no memory. Of a format that was
+/// stopped nothing is promised.
+pub fn format<D: Disk>(disk: &mut D, g: &Geometry) -> Result<u32, DiskFault>
+    requires { (D.fixed disk.old).size ≡ (layout_of g.now).blocks }
+    ensures free { IfOk result (λ free. free ≡ area_size (layout_of g.now) - 2) }
+    ensures formatted { OnOk result (IsTrue D.tells → IsFormatted (layout_of g.now) (D.state disk.new)) }
+    // At each moment the disk has its blocks. Before the end none of what they hold is promised.
+    ensures moments { IsTrue D.tells → Adds (D.past disk.old) (D.past disk.new) (λ s. length s.contents ≡ (layout_of g.now).blocks) }
+    ensures fixed { D.fixed disk.new ≡ D.fixed disk.old }
+    ensures cause { HasCause (D.faults disk.old) (D.faults disk.new) result }
+{
+    write_volume(disk, g)?;
+    Ok(g.area_size() - 2)
+}
+
+/// Writes all that a fresh volume has.
+fn write_volume<D: Disk>(disk: &mut D, g: &Geometry) -> Result<(), DiskFault>
+    requires { (D.fixed disk.old).size ≡ (layout_of g.now).blocks }
+    ensures formatted { OnOk result (IsTrue D.tells → IsFormatted (layout_of g.now) (D.state disk.new)) }
+    ensures moments { IsTrue D.tells → Adds (D.past disk.old) (D.past disk.new) (λ s. length s.contents ≡ (layout_of g.now).blocks) }
+    ensures fixed { D.fixed disk.new ≡ D.fixed disk.old }
+    ensures cause { HasCause (D.faults disk.old) (D.faults disk.new) result }
+{
+    write_counts(disk, g)?;
+    write_inodes(disk, g)?;
+    // All else has to be on the disk before the selector names the root.
+    write_through(disk, 1, &root_block(g))?;
+    write_through(disk, 0, &Block::zero())
+}
+
+/// Writes the count blocks into their first homes.
+fn write_counts<D: Disk>(disk: &mut D, g: &Geometry) -> Result<(), DiskFault>
+    requires { (D.fixed disk.old).size ≡ (layout_of g.now).blocks }
+    ensures written { OnOk result (IsTrue D.tells → D.state disk.new ≡ with_counts (layout_of g.now) (count_blocks (layout_of g.now)) (D.state disk.old)) }
+    ensures moments { IsTrue D.tells → Adds (D.past disk.old) (D.past disk.new) (λ s. length s.contents ≡ (layout_of g.now).blocks) }
+    ensures fixed { D.fixed disk.new ≡ D.fixed disk.old }
+    ensures cause { HasCause (D.faults disk.old) (D.faults disk.new) result }
+{
+    for i in 0..g.count_blocks() {
+        disk.write_block(3 + 2 * i, &count_block(g, i))?;
+    }
+    Ok(())
+}
+
+/// Writes the inode block and the inode index.
+fn write_inodes<D: Disk>(disk: &mut D, g: &Geometry) -> Result<(), DiskFault>
+    requires { (D.fixed disk.old).size ≡ (layout_of g.now).blocks }
+    ensures written { OnOk result (IsTrue D.tells → D.state disk.new ≡ with_inodes (layout_of g.now) (D.state disk.old)) }
+    ensures moments { IsTrue D.tells → Adds (D.past disk.old) (D.past disk.new) (λ s. length s.contents ≡ (layout_of g.now).blocks) }
+    ensures fixed { D.fixed disk.new ≡ D.fixed disk.old }
+    ensures cause { HasCause (D.faults disk.old) (D.faults disk.new) result }
+{
+    disk.write_block(g.area_start(), &inode_block())?;
+    disk.write_block(g.area_start() + 1, &index_block(g))
+}

@@ -1,0 +1,64 @@
+//! Logs a command: writes its record, and switches to a root that counts it.
+ghost use Rattle.std.specs.Prelude.{◌≡◌, ◌≢◌, ◌<◌, ◌≤◌, ◌+◌, [], IfOk, OnErr, IsTrue};
+ghost use Rattle.vol_numbers.specs.Cause.{HasCause};
+ghost use Rattle.disk_model.specs.Disk.{EachImage};
+ghost use Rattle.disk_model.specs.Past.{Adds};
+ghost use Rattle.root_switch.specs.Root.{root_of, HasGeometry};
+ghost use Rattle.op_log.specs.Record.{IsLogged, record_blocks};
+ghost use Rattle.log_volume.specs.Image.{HasNext};
+ghost use Rattle.log_volume.specs.Logging.{HasCurrent, next_root, KeepsOrNext};
+
+use disk_model::{Disk, DiskFault};
+use op_log::{append, record_blocks};
+use root_switch::{Current, RootBody, commit};
+use tree_model::Command;
+
+/// Writes the record of a command behind the log, and switches to a root that counts it. It takes no memory.
+pub(crate) fn log<D: Disk>(
+    disk: &mut D,
+    current: &Current,
+    command: &Command,
+) -> Result<Current, DiskFault>
+    requires slot { current.now.slot < 2 }
+    requires grammar { HasGeometry (root_of current.now.body) }
+    requires size { (root_of current.now.body).layout.blocks ≡ (D.fixed disk.old).size }
+    requires logged { IsLogged command.now }
+    requires room { current.now.body.log_used + record_blocks command.now ≤ (root_of current.now.body).layout.log_blocks }
+    requires current { IsTrue D.tells → HasCurrent current.now.slot (root_of current.now.body) (D.state disk.old) }
+    ensures slot { IfOk result (λ next. next.slot < 2) }
+    ensures grammar { IfOk result (λ next. HasGeometry (root_of next.body)) }
+    ensures root { IfOk result (λ next. root_of next.body ≡ next_root (root_of current.now.body) command.now) }
+    ensures current { IfOk result (λ next. IsTrue D.tells → HasCurrent next.slot (root_of next.body) (D.state disk.new)) }
+    ensures next { IfOk result (λ next. IsTrue D.tells → HasNext (D.state disk.old).contents (D.state disk.new).contents command.now) }
+    // At each moment, and in what a failure leaves, each image keeps what is live, or has the next record.
+    ensures during { IsTrue D.tells → Adds (D.past disk.old) (D.past disk.new) (EachImage (KeepsOrNext (D.state disk.old).contents command.now)) }
+    ensures left { OnErr result (IsTrue D.tells → EachImage (KeepsOrNext (D.state disk.old).contents command.now) (D.state disk.new)) }
+    ensures unsynced { OnErr result (IsTrue D.tells → (D.state disk.new).unsynced ≢ []) }
+    ensures fixed { D.fixed disk.new ≡ D.fixed disk.old }
+    ensures given { D.given disk.new ≡ D.given disk.old }
+    ensures cause { HasCause (D.faults disk.old) (D.faults disk.new) result }
+{
+    let body = next_body(&current.body, record_blocks(command));
+    append(
+        disk,
+        &current.body.geometry,
+        current.body.log_used,
+        command,
+    )?;
+    let slot = commit(disk, current.slot, &body)?;
+    Ok(Current { slot, body })
+}
+
+/// The root with one record more, of so many blocks.
+fn next_body(body: &RootBody, blocks: u32) -> RootBody
+    requires grammar { HasGeometry (root_of body.now) }
+    requires some { 1 ≤ blocks }
+    requires room { body.now.log_used + blocks ≤ (root_of body.now).layout.log_blocks }
+    ensures next { root_of result ≡ record (root_of body.now) { records = body.now.records + 1; log_used = body.now.log_used + blocks } }
+    ensures grammar { HasGeometry (root_of result) }
+{
+    let mut next = *body;
+    next.records += 1;
+    next.log_used += blocks;
+    next
+}
