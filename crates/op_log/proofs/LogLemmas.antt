@@ -1,5 +1,5 @@
 -- One record more in a log.
-use Rattle.std.proofs.Common.{◌≡◌, ◌∙◌, ◌+◌, ◌-◌, ◌<◌, ◌≤◌, ⊎_elim, ℕ, Bool, true, false, List, [], ◌∷◌, ◌++◌, length, refl, sym, ap, subst, arith, add-zero}
+use Rattle.std.proofs.Common.{◌≡◌, ◌∙◌, ◌+◌, ◌-◌, ◌<◌, ◌≤◌, ⊎_elim, ℕ, zero, suc, Bool, true, false, List, [], ◌∷◌, ◌++◌, length, take, get_or, refl, sym, ap, subst, arith, add-zero}
 use Rattle.std.specs.Prelude.{if◌then◌else◌, slice_get}
 use Rattle.std.proofs.lemmas.Bool.{cases_lt}
 use Rattle.vol_numbers.specs.declared.block.Block.{Block}
@@ -123,3 +123,14 @@ one_record_more image first used cs c holds fill has stands =
       },
       omega (arith, blocks_of-push cs c, fill),
     )
+
+-- the first records take some of the blocks of all
+pub blocks_of-more : (cs : List Command) (i : ℕ) (d : Command) → i < length cs
+    → (blocks_of (take (i + 1) cs) ≡ blocks_of (take i cs) + record_blocks (get_or cs i d)) × (blocks_of (take (i + 1) cs) ≤ blocks_of cs)
+blocks_of-more [] i d lt = absurd (omega arith)
+blocks_of-more (c ∷ cs) zero d lt = (omega arith, omega arith)
+blocks_of-more (c ∷ cs) (suc i) d lt =
+    let rest = blocks_of-more cs i d (omega arith) in
+    let same : suc i + 1 ≡ suc (i + 1) = omega arith in
+    let longer : blocks_of (take (suc i + 1) (c ∷ cs)) ≡ record_blocks c + blocks_of (take (i + 1) cs) = ap (λ (n : ℕ). blocks_of (take n (c ∷ cs))) same in
+    (omega (arith, rest.0, longer), omega (arith, rest.1, longer))

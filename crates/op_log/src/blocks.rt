@@ -1,8 +1,40 @@
-//! How many blocks a record takes.
-ghost use Rattle.std.specs.Prelude.{◌≡◌, ◌≤◌, ◌+◌, length};
-ghost use Rattle.op_log.specs.Record.{IsLogged, fields_of, record_blocks};
+//! Which commands are logged, and how many blocks their records take.
+ghost use Rattle.std.specs.Prelude.{◌≡◌, ◌≤◌, ◌<◌, ◌↔◌, ◌+◌, ◌^◌, All, IsTrue, length};
+ghost use Rattle.op_log.specs.Log.{blocks_of};
+ghost use Rattle.op_log.specs.Record.{IsLogged, HasRecord, fields_of, record_blocks};
 
+use crate::CommandList;
 use tree_model::Command;
+
+/// Whether a command is logged: it may change the tree, and each of its paths has a name.
+pub fn is_logged(command: &Command) -> bool
+    ensures { IsTrue result ↔ IsLogged command.now }
+{
+    match command {
+        Command::Mkdir { path } => !path.names().is_empty(),
+        Command::Create { path } => !path.names().is_empty(),
+        Command::Write { path, bytes, .. } => {
+            !path.names().is_empty() && !bytes.as_slice().is_empty()
+        }
+        Command::Truncate { path, .. } => !path.names().is_empty(),
+        Command::Remove { path } => !path.names().is_empty(),
+        Command::Rename { from, to } => !from.names().is_empty() && !to.names().is_empty(),
+        _ => false,
+    }
+}
+
+/// How many blocks of the log the records of these commands take together.
+pub fn blocks_of(commands: &CommandList) -> u32
+    requires records { All HasRecord commands.now }
+    requires fits { blocks_of commands.now < 2 ^ 32 }
+    ensures { result ≡ blocks_of commands.now }
+{
+    let mut blocks = 0;
+    for command in commands.as_slice() {
+        blocks += record_blocks(command);
+    }
+    blocks
+}
 
 /// How many blocks of the log the record of a command takes.
 pub fn record_blocks(command: &Command) -> u32

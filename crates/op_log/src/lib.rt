@@ -12,17 +12,18 @@ mod names;
 mod reading;
 mod record_reading;
 mod spelling;
-
-use tree_model::Command;
-use vol_numbers::ItemList;
+#[cfg(test)]
+mod tests;
 
 pub use appending::append;
-pub use blocks::record_blocks;
+pub use blocks::{blocks_of, is_logged, record_blocks};
 pub use fault::LogFault;
 pub use laws::{
     none_behind_bad, one_command, one_log, one_record_more, one_spelling, used_blocks_tell,
 };
 pub use reading::read_all;
+use tree_model::Command;
+use vol_numbers::ItemList;
 
 /// Commands, in the order in which they were accepted.
 pub type CommandList = ItemList<Command>;

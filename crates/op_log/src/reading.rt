@@ -8,9 +8,8 @@ ghost use Rattle.op_log.specs.Log.{HoldsRecords, IsFirstBad, blocks_of};
 ghost use Rattle.op_log.specs.Record.{HasRecord};
 
 use crate::fault::ReadFault;
-use crate::record_blocks;
 use crate::record_reading::next_record;
-use crate::{CommandList, LogFault};
+use crate::{CommandList, LogFault, record_blocks};
 use disk_model::Disk;
 use root_switch::RootBody;
 use std::alloc::Global;

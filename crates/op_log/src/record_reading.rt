@@ -53,7 +53,7 @@ fn record_bytes<D: Disk>(
     requires room { at + left ≤ (D.fixed disk.old).size }
     requires fits { at + left ≤ 65536 }
     ensures whole { IfOk result (λ found. IfSome found (λ bytes. IsWhole bytes.items left)) }
-    ensures blocks { IfOk result (λ found. IfSome found (λ bytes. IsTrue D.tells → AreBlocks (D.state disk.old).contents at (blocks_in (head_in bytes.items)) bytes.items)) }
+    ensures are_blocks { IfOk result (λ found. IfSome found (λ bytes. IsTrue D.tells → AreBlocks (D.state disk.old).contents at (blocks_in (head_in bytes.items)) bytes.items)) }
     ensures none { IfOk result (λ found. IfNone found (IsTrue D.tells → NoRecordStands (D.state disk.old).contents at left)) }
     ensures same { IsTrue D.tells → D.state disk.new ≡ D.state disk.old }
     ensures moments { IsTrue D.tells → Adds (D.past disk.old) (D.past disk.new) (λ s. s ≡ D.state disk.old) }

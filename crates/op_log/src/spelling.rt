@@ -48,10 +48,7 @@ impl<'a> Spelling<'a> {
         ensures head { result.head ≡ head }
         ensures payload { result.payload.now ≡ [] }
     {
-        Spelling {
-            head,
-            payload: &[],
-        }
+        Spelling { head, payload: &[] }
     }
 
     /// The i-th block.

@@ -10,4 +10,4 @@ returns-in-Ok-clause-none g c =
     let image : List Block = (g.D.Disk.state c.args.disk.now).contents in
     let bytes : List ℕ = c.in-Ok-Some.bytes.items in
     if_none_weaker c.in-Ok.found (λ none tells command has fits stands.
-    none command has (subst (Spells command) (sym c.deref.ensures.value) (stands_spells image c.args.at c.args.left bytes command known.whole (known.blocks tells) has stands))) c.in-Ok.ensures.none
+    none command has (subst (Spells command) (sym c.deref.ensures.value) (stands_spells image c.args.at c.args.left bytes command known.whole (known.are_blocks tells) has stands))) c.in-Ok.ensures.none

@@ -32,8 +32,8 @@ returns-in-Ok-clause-whole g c =
     let count : c.in-Some.count ≡ blocks_in (head_in whole) = c.in-Some.ensures.value ∙ ap blocks_in head in
     record { long = c.in-Ok.ensures.long ∙ ap (λ (n : ℕ). 4096 * n) count; within = omega (arith, count, c.if-count-left.false) }
 
-pub returns-in-Ok-clause-blocks : goal.returns-in-Ok-clause-blocks
-returns-in-Ok-clause-blocks g c = λ tells.
+pub returns-in-Ok-clause-are_blocks : goal.returns-in-Ok-clause-are_blocks
+returns-in-Ok-clause-are_blocks g c = λ tells.
     let bytes : List ℕ = c.read_up_to.new.bytes.items in
     let whole : List ℕ = c.read_up_to-2.new.bytes.items in
     let head : c.read.result ≡ head_in whole = c.read.ensures ∙ ap head_in c.deref.ensures.value ∙ sym (head_stays bytes whole c.in_default.ensures.long c.in-Ok.ensures.front) in
