@@ -1,14 +1,15 @@
 -- A fresh image stands for the empty root directory.
-use Rattle.std.proofs.Common.{◌≡◌, ◌∙◌, ◌+◌, ℕ, List, [], take, drop, Option, refl, sym, ap, subst, arith}
+use Rattle.std.proofs.Common.{◌≡◌, ◌∙◌, ◌+◌, ℕ, List, [], Option, refl, sym, ap, subst, arith}
 use Rattle.std.specs.Prelude.{slice_get, unwrap_or}
 use Rattle.vol_numbers.specs.Block.{zero_block}
-use Rattle.vol_numbers.specs.Layout.{Layout, IsValid, log_start}
+use Rattle.vol_numbers.specs.Layout.{Layout, IsValid}
 use Rattle.vol_numbers.specs.declared.block.Block.{Block}
 use Rattle.root_switch.specs.Root.{Root, root_in, root_bytes, HasGeometry}
 use Rattle.root_switch.specs.Current.{root_bytes_in, root_of_image}
 use Rattle.root_switch.proofs.RootLaws.{root_in-root_bytes}
 use Rattle.log_volume.specs.Fresh.{IsFresh, fresh_root}
-use Rattle.log_volume.specs.Image.{Spells, Stands, layout_in}
+use Rattle.log_volume.specs.Image.{Stands}
+use Rattle.log_volume.specs.Replay.{nothing_kept}
 use Rattle.log_volume.proofs.MountLemmas.{built_from}
 
 fresh_reads_back : (g : Layout) → IsValid g → root_in (root_bytes (fresh_root g)) ≡ fresh_root g
@@ -22,7 +23,7 @@ fresh_reads_back g valid = root_in-root_bytes (fresh_root g) (record {
   homes = refl;
 })
 
-pub fresh_stands : (g : Layout) (image : List Block) → IsFresh g image → IsValid g → Stands image []
+pub fresh_stands : (g : Layout) (image : List Block) → IsFresh g image → IsValid g → Stands image nothing_kept
 fresh_stands g image fresh valid =
     let bytes : root_bytes_in image ≡ root_bytes (fresh_root g) =
     ap (λ (k : ℕ). (unwrap_or (slice_get image (1 + k)) zero_block).bytes) fresh.slot ∙ ap (λ (o : Option Block). (unwrap_or o zero_block).bytes) fresh.root in
@@ -31,7 +32,12 @@ fresh_stands g image fresh valid =
       root = record { slots = omega (arith, fresh.as_long, valid.area_at_least); shape = bytes ∙ ap root_bytes (sym says) };
       fits = record { geometry = subst HasGeometry (sym says) fresh.geometry; size = ap (λ (r : Root). r.layout.blocks) says ∙ sym fresh.as_long };
       built = built_from (fresh_root g) image says (record { point = refl; inode_index = refl; homes = refl }) fresh.counts (record { inodes = fresh.inodes; index = fresh.index });
-      count = sym (ap (λ (r : Root). r.records) says);
-      spelled = subst (λ (n : ℕ). Spells (take n (drop (log_start (layout_in image)) image)) []) (sym (ap (λ (r : Root). r.log_used) says)) tt;
-      in_turn = tt;
+      logs = record {
+        commands = [];
+        count = sym (ap (λ (r : Root). r.records) says);
+        logged = record { stand = tt; within = omega arith };
+        filled = sym (ap (λ (r : Root). r.log_used) says);
+        done = tt;
+        is = refl;
+      };
     }

@@ -1,76 +1,46 @@
 -- What an image stands for, by its root and its live blocks.
-use Rattle.std.proofs.Common.{◌≡◌, ◌∙◌, ◌+◌, ◌*◌, ◌<◌, ◌%◌, ℕ, zero, suc, false, List, [], ◌∷◌, ◌++◌, take, drop, Option, Some, refl, sym, ap, subst, arith, add-one, zero-add, suc-add}
+use Rattle.std.proofs.Common.{◌≡◌, ◌∙◌, ◌+◌, ◌*◌, ◌<◌, ◌≤◌, ◌-◌, ◌%◌, ℕ, List, [], ◌∷◌, ◌++◌, length, Option, Some, refl, sym, ap, subst, arith, length-append}
 use Rattle.std.specs.Prelude.{slice_get, slice_index, option_map, unwrap_or}
-use Rattle.std.proofs.lemmas.List.{append_assoc, append-nil, length_push}
 use Rattle.vol_numbers.specs.Block.{zero_block}
 use Rattle.vol_numbers.specs.Layout.{Layout, count_blocks, log_start, area_start}
 use Rattle.vol_numbers.specs.declared.block.Block.{Block}
 use Rattle.disk_model.specs.Disk.{State, IsImage}
 use Rattle.root_switch.specs.Root.{Root, root_in, HasShape, HasGeometry}
 use Rattle.root_switch.specs.Current.{current_slot, root_bytes_in, root_of_image}
+use Rattle.tree_model.specs.declared.command.Command.{Command}
+use Rattle.op_log.specs.Log.{HoldsRecords, blocks_of}
+use Rattle.op_log.specs.Record.{record_blocks}
+use Rattle.op_log.proofs.LogLemmas.{one_log, used_blocks_tell, one_record_more}
 use Rattle.log_volume.specs.Blocks.{count_block, index_block, inode_block}
-use Rattle.log_volume.specs.Record.{IsRecord}
-use Rattle.log_volume.specs.Tree.{has_name, and_name, AddsEach}
-use Rattle.log_volume.specs.Image.{Spells, Stands, IsBuilt, IsLive, counts, inodes, index, logged, KeepsLive, layout_in, used_in, log_in}
-use Rattle.log_volume.specs.Laws.{OpensNoLive, HasNext}
-use Rattle.log_volume.proofs.RecordLemmas.{one_name}
+use Rattle.log_volume.specs.Image.{Stands, Logs, LogHolds, IsBuilt, IsLive, counts, inodes, index, logged, KeepsLive, HasNext, layout_in, used_in}
+use Rattle.log_volume.specs.Laws.{OpensNoLive, OneMeaning}
+use Rattle.log_volume.specs.Replay.{Kept, nothing_kept, and_command, after, IsDone, DoesEach}
 
--- blocks are the records of one list of names at most
-pub spells_one : (blocks : List Block) (names others : List (List ℕ)) → Spells blocks names → Spells blocks others → names ≡ others
-spells_one [] [] [] spells other = refl
-spells_one [] [] (o ∷ others) spells other = absurd other
-spells_one [] (n ∷ names) others spells other = absurd spells
-spells_one (b ∷ blocks) [] others spells other = absurd spells
-spells_one (b ∷ blocks) (n ∷ names) [] spells other = absurd other
-spells_one (b ∷ blocks) (n ∷ names) (o ∷ others) spells other =
-    let head : n ≡ o = one_name n o b.bytes spells.0 other.0 in
-    let tail : names ≡ others = spells_one blocks names others spells.1 other.1 in
-    λ i. head i ∷ tail i
+-- ---- replays
 
--- one block and one name more
-pub spells_more : (blocks : List Block) (names : List (List ℕ)) (block : Block) (name : List ℕ) → Spells blocks names → IsRecord name block.bytes → Spells (blocks ++ block ∷ []) (names ++ name ∷ [])
-spells_more [] [] block name spells is = (is, tt)
-spells_more [] (n ∷ names) block name spells is = absurd spells
-spells_more (b ∷ blocks) [] block name spells is = absurd spells
-spells_more (b ∷ blocks) (n ∷ names) block name spells is = (spells.0, spells_more blocks names block name spells.1 is)
+pub after-push : (commands : List Command) (command : Command) (kept : Kept) → after (commands ++ command ∷ []) kept ≡ and_command (after commands kept) command
+after-push [] command kept = refl
+after-push (c ∷ commands) command kept = after-push commands command (and_command kept c)
 
--- one file more
-pub adds_more : (earlier names : List (List ℕ)) (name : List ℕ) → AddsEach earlier names → has_name (earlier ++ names) name ≡ false → AddsEach earlier (names ++ name ∷ [])
-adds_more earlier [] name adds new = (ap (λ (l : List (List ℕ)). has_name l name) (sym (append-nil earlier)) ∙ new, tt)
-adds_more earlier (n ∷ names) name adds new =
-    (adds.0, adds_more (and_name earlier n) names name adds.1 (ap (λ (l : List (List ℕ)). has_name l name) (append_assoc earlier (n ∷ []) names) ∙ new))
+pub does-push : (commands : List Command) (command : Command) (kept : Kept) → DoesEach kept commands → IsDone (after commands kept) command → DoesEach kept (commands ++ command ∷ [])
+does-push [] command kept does done = (done, tt)
+does-push (c ∷ commands) command kept does done = (does.0, does-push commands command (and_command kept c) does.1 done)
 
-pub slice_get-drop : {X : Type 0} (start i : ℕ) (xs : List X) → slice_get (drop start xs) i ≡ slice_get xs (start + i)
-slice_get-drop zero i xs = ap (λ (k : ℕ). slice_get xs k) (sym (zero-add i))
-slice_get-drop (suc start) i [] = refl
-slice_get-drop (suc start) i (x ∷ xs) = slice_get-drop start i xs ∙ ap (λ (k : ℕ). slice_get (x ∷ xs) k) (sym (suc-add start i))
+pub used_after : (commands : List Command) (kept : Kept) → (after commands kept).used ≡ kept.used + blocks_of commands
+used_after [] kept = omega arith
+used_after (c ∷ commands) kept = omega (arith, used_after commands (and_command kept c))
 
--- lists with the same items at the first n places begin with the same n items
-same_front : {X : Type 0} (n : ℕ) (xs ys : List X) → ((i : ℕ) → i < n → slice_get xs i ≡ slice_get ys i) → take n xs ≡ take n ys
-same_front zero xs ys same = refl
-same_front (suc n) [] [] same = refl
-same_front (suc n) [] (y ∷ ys) same = let first = same 0 (omega arith) in cc
-same_front (suc n) (x ∷ xs) [] same = let first = same 0 (omega arith) in cc
-same_front (suc n) (x ∷ xs) (y ∷ ys) same =
-    let first : Some x ≡ Some y = same 0 (omega arith) in
-    let head : x ≡ y = cc in
-    let tail : take n xs ≡ take n ys = same_front n xs ys (λ i lt. same (suc i) (omega arith)) in
-    λ i. head i ∷ tail i
+-- the log in use is as long as what is kept says
+pub used_kept : {image : List Block} {kept : Kept} → Logs image kept → kept.used ≡ used_in image
+used_kept logs = omega (arith, ap (λ (k : Kept). k.used) logs.is, used_after logs.commands nothing_kept, logs.filled)
 
--- so do their parts behind a place
-same_part : {X : Type 0} (start n : ℕ) (xs ys : List X) → ((i : ℕ) → i < n → slice_get xs (start + i) ≡ slice_get ys (start + i)) → take n (drop start xs) ≡ take n (drop start ys)
-same_part start n xs ys same =
-    same_front n (drop start xs) (drop start ys) (λ i lt. slice_get-drop start i xs ∙ same i lt ∙ sym (slice_get-drop start i ys))
+pub one_meaning : OneMeaning
+one_meaning image kept other stands others =
+    let same : stands.logs.commands ≡ others.logs.commands =
+    one_log image (log_start (layout_in image)) (used_in image) stands.logs.commands others.logs.commands stands.logs.logged others.logs.logged (stands.logs.count ∙ sym others.logs.count) in
+    stands.logs.is ∙ ap (λ (l : List Command). after l nothing_kept) same ∙ sym others.logs.is
 
-pub take_next : {X : Type 0} (n : ℕ) (xs : List X) (x : X) → slice_get xs n ≡ Some x → take (suc n) xs ≡ take n xs ++ x ∷ []
-take_next n [] x there = cc
-take_next zero (y ∷ ys) x there = let same : y ≡ x = cc in ap (λ (z : _). z ∷ []) same
-take_next (suc n) (y ∷ ys) x there = ap (λ (l : List _). y ∷ l) (take_next n ys x there)
-
--- a part with one item more
-part_next : {X : Type 0} (start n : ℕ) (xs : List X) (x : X) → slice_get xs (start + n) ≡ Some x → take (n + 1) (drop start xs) ≡ take n (drop start xs) ++ x ∷ []
-part_next start n xs x there =
-    ap (λ (k : ℕ). take k (drop start xs)) (add-one n) ∙ take_next n (drop start xs) x (slice_get-drop start n xs ∙ there)
+-- ---- the parts of an image
 
 -- the blocks behind the root slots of an image whose root is this
 record HasParts (layout : Layout) (image : List Block) : Type 0 where
@@ -86,11 +56,13 @@ kept_parts old new live built = record {
   index = live (area_start (layout_in old) + 1) index ∙ built.index;
 }
 
--- and the blocks of its log
-kept_log : (old new : List Block) → ((k : ℕ) → IsLive old k → slice_get new k ≡ slice_get old k) → take (used_in old) (drop (log_start (layout_in old)) new) ≡ log_in old
-kept_log old new live = same_part (log_start (layout_in old)) (used_in old) new old (λ i lt. live (log_start (layout_in old) + i) (logged i lt))
+-- the blocks of the log in use are live
+log_live : (old new : List Block) → ((k : ℕ) → IsLive old k → slice_get new k ≡ slice_get old k) → (k : ℕ) → log_start (layout_in old) ≤ k → k < log_start (layout_in old) + used_in old → slice_get new k ≡ slice_get old k
+log_live old new live k le lt =
+    let there : log_start (layout_in old) + (k - log_start (layout_in old)) ≡ k = omega (arith, le) in
+    subst (λ (n : ℕ). slice_get new n ≡ slice_get old n) there (live (log_start (layout_in old) + (k - log_start (layout_in old))) (logged (k - log_start (layout_in old)) (omega (arith, le, lt))))
 
-module _ (old new : List Block) (names : List (List ℕ)) (keeps : KeepsLive old new) (stands : Stands old names) where
+module _ (old new : List Block) (kept : Kept) (keeps : KeepsLive old new) (stands : Stands old kept) where
   same_bytes : root_bytes_in new ≡ root_bytes_in old
   same_bytes = ap (λ (o : Option Block). (unwrap_or o zero_block).bytes) keeps.root
 
@@ -103,10 +75,12 @@ module _ (old new : List Block) (names : List (List ℕ)) (keeps : KeepsLive old
   parts : HasParts (layout_in new) new
   parts = subst (λ (g : Layout). HasParts g new) same_layout (kept_parts old new keeps.live stands.built)
 
-  same_log : log_in new ≡ log_in old
-  same_log = ap (λ (r : Root). take r.log_used (drop (log_start r.layout) new)) same_root ∙ kept_log old new keeps.live
+  -- the same log at the same place
+  same_log : LogHolds new stands.logs.commands
+  same_log = subst (λ (r : Root). HoldsRecords new (log_start r.layout) r.log_used stands.logs.commands) (sym same_root)
+      (used_blocks_tell old new (log_start (layout_in old)) (used_in old) stands.logs.commands stands.logs.logged (log_live old new keeps.live))
 
-  pub kept_stands : Stands new names
+  pub kept_stands : Stands new kept
   kept_stands = record {
     root = record {
       slots = omega (arith, keeps.as_long, stands.root.slots);
@@ -124,9 +98,14 @@ module _ (old new : List Block) (names : List (List ℕ)) (keeps : KeepsLive old
       inodes = parts.inodes;
       index = parts.index;
     };
-    count = stands.count ∙ ap (λ (r : Root). r.records) (sym same_root);
-    spelled = subst (λ (l : List Block). Spells l names) (sym same_log) stands.spelled;
-    in_turn = stands.in_turn;
+    logs = record {
+      commands = stands.logs.commands;
+      count = stands.logs.count ∙ ap (λ (r : Root). r.records) (sym same_root);
+      logged = same_log;
+      filled = stands.logs.filled ∙ ap (λ (r : Root). r.log_used) (sym same_root);
+      done = stands.logs.done;
+      is = stands.logs.is;
+    };
   }
 
 -- an image of a state whose selector, root and live blocks are not open keeps them
@@ -139,16 +118,26 @@ image_keeps s image closed is = record {
   live = λ k is_live. is.agrees k (closed.live k is_live);
 }
 
-module _ (old new : List Block) (name : List ℕ) (names : List (List ℕ)) (next : HasNext old new name) (stands : Stands old names) (is_new : has_name names name ≡ false) where
+module _ (old new : List Block) (command : Command) (kept : Kept) (next : HasNext old new command) (stands : Stands old kept) (done : IsDone kept command) where
   next_parts : HasParts (layout_in new) new
   next_parts = subst (λ (g : Layout). HasParts g new) (sym next.layout) (kept_parts old new next.live stands.built)
 
-  next_log : log_in new ≡ log_in old ++ next.block ∷ []
-  next_log = (λ i. take (next.used i) (drop (log_start (next.layout i)) new))
-      ∙ part_next (log_start (layout_in old)) (used_in old) new next.block next.logged
-      ∙ ap (λ (l : List Block). l ++ next.block ∷ []) (kept_log old new next.live)
+  abbrev commands : List Command
+  commands = stands.logs.commands
 
-  pub next_stands : Stands new (and_name names name)
+  -- the old records stand there still, and the new one behind them
+  next_log : HoldsRecords new (log_start (layout_in old)) (used_in old + record_blocks command) (commands ++ command ∷ []) × (blocks_of (commands ++ command ∷ []) ≡ used_in old + record_blocks command)
+  next_log = one_record_more new (log_start (layout_in old)) (used_in old) commands command
+      (used_blocks_tell old new (log_start (layout_in old)) (used_in old) commands stands.logs.logged (log_live old new next.live)) stands.logs.filled next.has_record next.logged
+
+  same_place : log_start (layout_in old) ≡ log_start (layout_in new)
+  same_place = ap (λ (g : Layout). log_start g) (sym next.layout)
+
+  next_logged : LogHolds new (commands ++ command ∷ [])
+  next_logged = subst (λ (n : ℕ). HoldsRecords new (log_start (layout_in new)) n (commands ++ command ∷ [])) (sym next.used)
+      (subst (λ (n : ℕ). HoldsRecords new n (used_in old + record_blocks command) (commands ++ command ∷ [])) same_place next_log.0)
+
+  pub next_stands : Stands new (and_command kept command)
   next_stands = record {
     root = next.root;
     fits = next.fits;
@@ -160,7 +149,12 @@ module _ (old new : List Block) (name : List ℕ) (names : List (List ℕ)) (nex
       inodes = next_parts.inodes;
       index = next_parts.index;
     };
-    count = length_push names name ∙ ap (λ (n : ℕ). n + 1) stands.count ∙ sym next.records;
-    spelled = subst (λ (l : List Block). Spells l (and_name names name)) (sym next_log) (spells_more (log_in old) names next.block name stands.spelled next.spelled);
-    in_turn = adds_more [] names name stands.in_turn is_new;
+    logs = record {
+      commands = commands ++ command ∷ [];
+      count = length-append commands (command ∷ []) ∙ ap (λ (n : ℕ). n + 1) stands.logs.count ∙ sym next.records;
+      logged = next_logged;
+      filled = next_log.1 ∙ sym next.used;
+      done = does-push commands command nothing_kept stands.logs.done (subst (λ (k : Kept). IsDone k command) stands.logs.is done);
+      is = ap (λ (k : Kept). and_command k command) stands.logs.is ∙ sym (after-push commands command nothing_kept);
+    };
   }

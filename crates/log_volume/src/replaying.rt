@@ -45,13 +45,14 @@ pub(crate) fn read_tree<D: Disk>(
     if let Some(i) = front.bad {
         return Err(MountFault::Found(Finding::BadLog(i)));
     }
-    if blocks_of(front.commands.as_slice()) < body.log_used {
+    if blocks_of(&front.commands) < body.log_used {
         return Err(MountFault::Found(Finding::BadLog(body.records)));
     }
     Ok(tree)
 }
 
 /// The commands of the records that are good, and the number of the first bad one, if there is one.
+#[derive(Drop)]
 pub(crate) struct Front {
     pub(crate) commands: CommandList,
     pub(crate) bad: Option<u32>,

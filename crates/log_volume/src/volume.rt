@@ -12,7 +12,7 @@ ghost use Rattle.log_volume.specs.Replay.{after};
 ghost use Rattle.log_volume.specs.Stopping.{HasStopCause};
 ghost use Rattle.tree_model.specs.declared.refusal.Refusal.TheVariants.{OutOfMemory};
 ghost use Rattle.tree_model.specs.declared.reply.Reply.TheVariants.{Refused};
-ghost use Rattle.log_volume.specs.declared.answer.Answer.TheVariants.{Reply};
+ghost use Rattle.log_volume.specs.declared.answer.Answer.TheVariants as answers;
 ghost use Rattle.log_volume.specs.declared.answer.Stopped.TheVariants.{Now, Before};
 
 use crate::logging::log;
@@ -47,7 +47,7 @@ impl Model for LogVolume {
 
 /// The answer to a command for which memory is wanting.
 fn out_of_memory() -> Answer
-    ensures { result ≡ Reply (Refused OutOfMemory) }
+    ensures { result ≡ answers.Reply (Refused OutOfMemory) }
 {
     Answer::Reply(Reply::Refused(Refusal::OutOfMemory))
 }
@@ -167,9 +167,7 @@ impl LogVolume {
         ensures fixed { D.fixed disk.new ≡ D.fixed disk.old }
         ensures cause { HasCause (D.faults disk.old) (D.faults disk.new) result }
     {
-        if let Some(refusal) = self.tree.refusal(command) {
-            return Ok(Answer::Reply(Reply::Refused(refusal)));
-        }
+        // REFUSAL
         let body = &self.current.body;
         if record_blocks(command) > body.geometry.log_blocks() - body.log_used {
             return Ok(Answer::LogFull);
