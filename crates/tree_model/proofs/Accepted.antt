@@ -8,7 +8,7 @@ use Rattle.tree_model.specs.declared.refusal.Refusal.{Refusal}
 use Rattle.tree_model.specs.declared.refusal.Refusal.TheVariants.{NotFound, NotADirectory}
 use Rattle.tree_model.specs.declared.reply.Reply.{Reply}
 use Rattle.tree_model.specs.Path.{Path}
-use Rattle.tree_model.specs.Tree.{Tree, node_at, is_directory, holds_entries}
+use Rattle.tree_model.specs.Tree.{Tree, node_at, is_directory}
 use Rattle.tree_model.specs.Step.{◌>>=◌, refuse_if, or_refuse, walk, walk_from, bytes_of}
 use Rattle.tree_model.proofs.AttemptLaws.{Accepts}
 

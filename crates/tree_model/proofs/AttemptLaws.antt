@@ -1,22 +1,20 @@
 -- What holds of the answer to every command.
-use Rattle.std.proofs.Common.{◌≡◌, ℕ, List, [], ◌∷◌, true, false, refl, sym, ap, subst, ◌∙◌, IsTrue, Some, None, cond, not}
-use Rattle.std.specs.Prelude.{Result, Ok, Err, Option, max, Bool}
+use Rattle.std.proofs.Common.{◌≡◌, ℕ, List, [], ◌∷◌, true, false, refl, sym, subst, Some, None, not}
+use Rattle.std.specs.Prelude.{Result, Ok, Err, Option, max}
 use Rattle.std.proofs.Math.Dec.{T}
 use Rattle.std.specs.Ordering.{eq_by_cmp}
 use Rattle.std.specs.Cmp.{IsTotalOrder}
 use Rattle.std.specs.Cmp.Lexicographic.{lists_total, nat_list_cmp_total}
-use Rattle.std.specs.FinMap.{find, put, is_sorted}
-use Rattle.std.specs.FinMap.Entries.{find-put, is_sorted-put, is_sorted-where_key, same_entries, where_key}
+use Rattle.std.specs.FinMap.Entries.{find-put, is_sorted-put, is_sorted-where_key, same_entries}
 use Rattle.tree_model.specs.declared.command.Command.{Command}
 use Rattle.tree_model.specs.declared.command.Command.TheVariants.{Mkdir, Create, Write, Truncate, Remove, Rename, Read, List as ListOf, Stat, Layout, Space, Checkpoint, End}
 use Rattle.tree_model.specs.declared.node.Node.{Node}
-use Rattle.tree_model.specs.declared.node.Content.{Content}
 use Rattle.tree_model.specs.declared.node.Content.TheVariants.{File, Directory}
 use Rattle.tree_model.specs.declared.refusal.Refusal.{Refusal}
 use Rattle.tree_model.specs.declared.reply.Reply.{Reply}
 use Rattle.tree_model.specs.declared.reply.Reply.TheVariants.{Done, Data, Entries, Stat as StatOf, Refused}
-use Rattle.tree_model.specs.Path.{Path, path_cmp, strip}
-use Rattle.tree_model.specs.Tree.{Tree, with_node, without, moved_onto, moved, new_path, with_width, with_content_width, written}
+use Rattle.tree_model.specs.Path.{Path, path_cmp}
+use Rattle.tree_model.specs.Tree.{Tree, with_node, without, moved_onto, new_path, with_width, with_content_width, written}
 use Rattle.tree_model.specs.Step.{step, attempt, settled, ◌>>=◌, written_tree, is_change}
 use Rattle.tree_model.specs.Order.{IsOrdered}
 use Rattle.tree_model.specs.Laws.{KeepsOrder, SameTree, PutAt, RefusedLeaves, ReadingLeaves}
@@ -97,10 +95,10 @@ keeps_order tree command h = settled_ordered tree (attempt tree command) h (atte
 
 -- ---- refusals
 
-abbrev IsNoRefusal : Reply → Type 0
+abbrev pub IsNoRefusal : Reply → Type 0
 IsNoRefusal reply = (refusal : Refusal) → reply ≡ Refused refusal → ⊥
 
-abbrev NotRefused : Reply → Tree → Type 0
+abbrev pub NotRefused : Reply → Tree → Type 0
 NotRefused reply tree = IsNoRefusal reply
 
 done_is : IsNoRefusal Done
@@ -115,7 +113,7 @@ entries_is entries refusal e = cc
 stat_is : (kind : _) (number size : ℕ) → IsNoRefusal (StatOf kind number size)
 stat_is kind number size refusal e = cc
 
-attempt_accepts : (tree : Tree) (command : Command) → Accepts NotRefused (attempt tree command)
+pub attempt_accepts : (tree : Tree) (command : Command) → Accepts NotRefused (attempt tree command)
 attempt_accepts tree (Mkdir path) = search (after_all, done_is) depth 12
 attempt_accepts tree (Create path) = search (after_all, done_is) depth 12
 attempt_accepts tree (Write path offset bytes) = search (after_all, done_is) depth 9

@@ -1,9 +1,9 @@
 -- The bytes of a file after a write and after a truncation.
-use Rattle.std.proofs.Common.{◌≡◌, ℕ, zero, suc, ◌+◌, ◌-◌, ◌*◌, ◌/◌, ◌%◌, ◌<◌, ◌≤◌, List, [], ◌∷◌, ◌++◌, length, take, drop, true, false, not, refl, sym, ap, ◌∙◌, cond, arith, slice_index_or, length-append, length-drop}
-use Rattle.std.specs.Prelude.{Bool, min, replicate, nat_lt, nat_eq, ◌&&◌, if◌then◌else◌, Contains}
-use Rattle.std.proofs.lemmas.List.{get_or-append-add, get_or-append_right, get_or_append_left, get_or-take, get_or-drop, get_or-replicate, get_or_past, length-take, length-replicate}
+use Rattle.std.proofs.Common.{◌≡◌, ℕ, zero, suc, ◌+◌, ◌-◌, ◌*◌, ◌/◌, ◌%◌, ◌<◌, ◌≤◌, List, [], ◌∷◌, ◌++◌, length, take, drop, true, false, not, refl, sym, ap, ◌∙◌, arith, slice_index_or, length-append}
+use Rattle.std.specs.Prelude.{min, replicate, nat_lt, nat_eq, ◌&&◌, if◌then◌else◌, Contains}
+use Rattle.std.proofs.lemmas.List.{get_or-append_right, get_or_append_left, get_or-take, get_or-drop, get_or-replicate, get_or_past, length-take, length-replicate}
 use Rattle.std.proofs.lemmas.Bool.{eqb-true}
-use Rattle.tree_model.specs.declared.node.Content.TheVariants.{File, Directory}
+use Rattle.tree_model.specs.declared.node.Content.TheVariants.{File}
 use Rattle.tree_model.specs.Tree.{resized, written}
 use Rattle.tree_model.specs.Touched.{places, cut_place}
 use Rattle.tree_model.specs.Follow.{KeepsUntouched}

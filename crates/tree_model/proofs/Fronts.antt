@@ -1,10 +1,10 @@
 -- Paths: when two are one, and what follows a front.
-use Rattle.std.proofs.Common.{◌≡◌, ℕ, ◌+◌, List, [], ◌∷◌, ◌++◌, length, true, false, refl, sym, ap, subst, ◌∙◌, Some, None, cond, inl, inr, arith, append-nil, length-append}
-use Rattle.std.specs.Prelude.{Option, Bool, nat_eq, ◌⊎◌, ◌&&◌, if◌then◌else◌}
+use Rattle.std.proofs.Common.{◌≡◌, ℕ, ◌+◌, List, [], ◌∷◌, ◌++◌, length, true, false, refl, sym, ap, subst, ◌∙◌, Some, None, inl, inr, arith, append-nil, length-append}
+use Rattle.std.specs.Prelude.{Bool, nat_eq, ◌⊎◌, ◌&&◌, if◌then◌else◌}
 use Rattle.std.specs.Ordering.{eq_by_cmp, is_eq}
 use Rattle.std.specs.declared.cmp.Ordering.{Ordering}
 use Rattle.std.specs.declared.cmp.Ordering.TheVariants.{Less, Equal, Greater}
-use Rattle.std.specs.Cmp.Lexicographic.{pointwise, nat_list_eq_equiv}
+use Rattle.std.specs.Cmp.Lexicographic.{nat_list_eq_equiv}
 use Rattle.std.proofs.lemmas.Cmp.{tied_itself}
 use Rattle.std.proofs.lemmas.Bool.{eqb-true}
 use Rattle.tree_model.specs.Path.{Path, path_cmp, name_eq, is_root, parent_of, strip}

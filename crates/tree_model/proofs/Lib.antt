@@ -9,6 +9,7 @@ pub mod Orders
 pub mod Parents
 pub mod PutRules
 pub mod Puts
+pub mod RefusalLaws
 pub mod RenameLaws
 pub mod Renames
 pub mod Shapes

@@ -1,16 +1,14 @@
 -- What stands at each path after a change, by what stood there before.
-use Rattle.std.proofs.Common.{◌≡◌, ℕ, List, [], ◌∷◌, ◌++◌, length, true, false, not, refl, sym, ap, subst, ◌∙◌, Some, None, cond, inl, inr, append_assoc, append-nil, suc, arith}
+use Rattle.std.proofs.Common.{◌≡◌, ℕ, List, [], ◌∷◌, ◌++◌, length, true, false, not, refl, sym, ap, ◌∙◌, Some, None, cond, inl, inr, suc, arith}
 use Rattle.std.proofs.lemmas.List.{append_cancel_left}
-use Rattle.std.specs.Prelude.{Option, Bool, ◌⊎◌, is_some, nat_eq}
+use Rattle.std.specs.Prelude.{◌⊎◌, is_some, nat_eq}
 use Rattle.std.specs.List.{cons_option}
 use Rattle.std.proofs.lemmas.Bool.{eqb-true}
-use Rattle.std.specs.Ordering.{eq_by_cmp}
 use Rattle.std.specs.FinMap.Entries.{find-where_key}
 use Rattle.tree_model.specs.declared.node.Node.{Node}
-use Rattle.tree_model.specs.declared.reply.Entry.{Entry}
 use Rattle.tree_model.specs.Path.{Path, path_cmp, strip}
-use Rattle.tree_model.specs.Tree.{Tree, node_at, with_node, without, new_path, renamed, moved_onto, entries_of, entry_below, is_directory}
-use Rattle.tree_model.specs.Shape.{shape_of, came_from, after_rename}
+use Rattle.tree_model.specs.Tree.{Tree, node_at, without, new_path, renamed, moved_onto, entries_of, entry_below}
+use Rattle.tree_model.specs.Shape.{came_from, after_rename}
 use Rattle.tree_model.proofs.Puts.{same_path}
 use Rattle.tree_model.proofs.AttemptLaws.{put_at}
 use Rattle.tree_model.proofs.Fronts.{tie, tie_is, tie_same, same_test, test_fails, strip_is, strip_back, strip_none}

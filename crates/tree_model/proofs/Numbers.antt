@@ -1,7 +1,7 @@
 -- The least unused number: a list of nodes has no more numbers than nodes, so the search ends at one that is unused.
-use Rattle.std.proofs.Common.{◌≡◌, ℕ, zero, suc, ◌+◌, ◌-◌, ◌≤◌, ◌<◌, List, [], ◌∷◌, length, true, false, refl, sym, ap, ◌∙◌, Some, None, cond, not, arith, inl, inr, subst}
-use Rattle.std.specs.Prelude.{Option, Bool, nat_eq, nat_le, nat_lt, ◌&&◌, ◌||◌, ◌⊎◌, if◌then◌else◌}
-use Rattle.tree_model.specs.Tree.{Tree, is_used, unused_from, least_unused, at_most}
+use Rattle.std.proofs.Common.{◌≡◌, ℕ, zero, suc, ◌+◌, ◌≤◌, ◌<◌, [], ◌∷◌, length, true, false, refl, sym, ap, ◌∙◌, Some, None, cond, arith, inl, inr, subst}
+use Rattle.std.specs.Prelude.{nat_eq, nat_le, nat_lt, ◌&&◌, ◌||◌, ◌⊎◌, if◌then◌else◌}
+use Rattle.tree_model.specs.Tree.{Tree, is_used, unused_from, at_most}
 use Rattle.tree_model.specs.Laws.{IsLeastUnused, GivesLeast}
 
 -- how many nodes have a number from n to below m

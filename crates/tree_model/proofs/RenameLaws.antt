@@ -1,18 +1,18 @@
 -- A rename moves exactly the paths that begin with the one.
-use Rattle.std.proofs.Common.{◌≡◌, ℕ, ◌+◌, ◌≤◌, List, [], ◌∷◌, ◌++◌, true, false, not, refl, sym, ap, subst, ◌∙◌, Some, None, cond, inl, inr, append_assoc, append-nil, arith, length}
+use Rattle.std.proofs.Common.{◌≡◌, ℕ, ◌≤◌, List, [], ◌∷◌, ◌++◌, true, false, refl, sym, ap, subst, ◌∙◌, Some, None, cond, inl, inr, append_assoc, append-nil, arith, length}
 use Rattle.std.specs.Prelude.{Result, Ok, Err, Option, Bool, ◌⊎◌, is_some, max}
 use Rattle.tree_model.specs.declared.command.Command.TheVariants.{Rename}
 use Rattle.tree_model.specs.declared.node.Node.{Node}
 use Rattle.tree_model.specs.declared.node.Content.{Content}
 use Rattle.tree_model.specs.declared.node.Content.TheVariants.{File, Directory}
 use Rattle.tree_model.specs.declared.refusal.Refusal.{Refusal}
-use Rattle.tree_model.specs.declared.refusal.Refusal.TheVariants.{NotADirectory, Exists, RootFixed, Inside}
+use Rattle.tree_model.specs.declared.refusal.Refusal.TheVariants.{Exists, Inside}
 use Rattle.tree_model.specs.declared.reply.Reply.{Reply}
 use Rattle.tree_model.specs.declared.reply.Reply.TheVariants.{Done}
 use Rattle.tree_model.specs.Path.{Path, is_root, parent_of, strip}
-use Rattle.tree_model.specs.Tree.{Tree, new_tree, node_at, with_node, is_directory, with_width, with_content_width, widened, moved, entries_of}
-use Rattle.tree_model.specs.Step.{step, attempt, settled, ◌>>=◌, refuse_if, or_refuse, walk}
-use Rattle.tree_model.specs.Shape.{IsTree, IsShape, shape_at, after_rename}
+use Rattle.tree_model.specs.Tree.{Tree, new_tree, node_at, with_width, with_content_width, widened, moved, entries_of}
+use Rattle.tree_model.specs.Step.{step, attempt, settled, refuse_if, walk}
+use Rattle.tree_model.specs.Shape.{IsTree, IsShape, shape_at}
 use Rattle.tree_model.specs.Follow.{ContentFollows, Follows}
 use Rattle.tree_model.specs.Laws.{RenameMoves, RenamesMove, KeepsTree}
 use Rattle.tree_model.proofs.Accepted.{with_ok, passed, walked, nothing}

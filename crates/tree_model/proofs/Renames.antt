@@ -1,10 +1,10 @@
 -- A rename keeps what is in front of a path, and numbers apart.
-use Rattle.std.proofs.Common.{◌≡◌, ℕ, ◌≤◌, List, [], ◌∷◌, ◌++◌, true, false, not, refl, sym, ap, subst, ◌∙◌, Some, None, cond, inl, inr, append_assoc, append-nil}
+use Rattle.std.proofs.Common.{◌≡◌, ℕ, List, [], ◌∷◌, ◌++◌, true, false, refl, sym, ap, ◌∙◌, Some, None, inl, inr, append_assoc}
 use Rattle.std.proofs.lemmas.List.{append_cancel_left}
-use Rattle.std.specs.Prelude.{Option, Bool, ◌⊎◌}
+use Rattle.std.specs.Prelude.{Option, Bool}
 use Rattle.tree_model.specs.Path.{Path, is_root, parent_of, strip}
 use Rattle.tree_model.specs.Shape.{IsShape, came_from, after_rename}
-use Rattle.tree_model.proofs.Fronts.{strip_is, strip_back, strip_none, strip_root, Under, Above, compare, no_longer}
+use Rattle.tree_model.proofs.Fronts.{strip_is, strip_back, strip_none, strip_root, compare, no_longer}
 use Rattle.tree_model.proofs.Shapes.{Shape, Front, front_is}
 
 -- where a path that is found after a rename was before it

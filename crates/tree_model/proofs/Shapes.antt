@@ -1,9 +1,9 @@
 -- Each change of the tree keeps what is in front of a path, and numbers apart.
-use Rattle.std.proofs.Common.{◌≡◌, ℕ, ◌≤◌, List, [], ◌∷◌, ◌++◌, true, false, not, refl, sym, ap, subst, ◌∙◌, Some, None, cond, inl, inr, append_assoc, append-nil}
+use Rattle.std.proofs.Common.{◌≡◌, ℕ, ◌≤◌, List, [], ◌∷◌, ◌++◌, true, false, not, refl, sym, ap, subst, ◌∙◌, Some, None, cond, inl, inr}
 use Rattle.std.specs.Prelude.{Option, Bool, ◌⊎◌}
-use Rattle.tree_model.specs.Path.{Path, is_root, parent_of, strip}
-use Rattle.tree_model.specs.Shape.{IsShape, came_from, after_rename}
-use Rattle.tree_model.proofs.Fronts.{tie, tie_is, tie_same, test_fails, strip_is, strip_back, strip_none, strip_root, Under, Above, compare, in_front, no_longer}
+use Rattle.tree_model.specs.Path.{Path, is_root, parent_of}
+use Rattle.tree_model.specs.Shape.{IsShape}
+use Rattle.tree_model.proofs.Fronts.{tie, tie_is, test_fails, in_front}
 
 abbrev pub Shape : Type 0
 Shape = Path → Option (ℕ × Bool)

@@ -1,18 +1,18 @@
 -- Where each node of the tree after a command comes from.
-use Rattle.std.proofs.Common.{◌≡◌, ℕ, ◌+◌, ◌-◌, ◌/◌, ◌<◌, ◌≤◌, List, [], ◌∷◌, ◌++◌, true, false, not, refl, sym, ap, subst, ◌∙◌, Some, None, cond, inl, inr, arith, length}
-use Rattle.std.specs.Prelude.{Result, Ok, Err, Option, Bool, ◌⊎◌, is_some, nat_eq, max}
+use Rattle.std.proofs.Common.{◌≡◌, ℕ, ◌≤◌, List, [], ◌∷◌, true, false, not, refl, sym, ap, subst, ◌∙◌, Some, None, cond, inl, inr, arith, length}
+use Rattle.std.specs.Prelude.{Result, Ok, Err, Option, ◌⊎◌, is_some, max}
 use Rattle.tree_model.specs.declared.command.Command.{Command}
 use Rattle.tree_model.specs.declared.command.Command.TheVariants.{Mkdir, Create, Write, Truncate, Remove, Rename, Read, List as ListOf, Stat, Layout, Space, Checkpoint, End}
 use Rattle.tree_model.specs.declared.node.Node.{Node}
 use Rattle.tree_model.specs.declared.node.Content.{Content}
 use Rattle.tree_model.specs.declared.node.Content.TheVariants.{File, Directory}
 use Rattle.tree_model.specs.declared.refusal.Refusal.{Refusal}
-use Rattle.tree_model.specs.declared.refusal.Refusal.TheVariants.{NotFound, NotADirectory, IsADirectory, Exists, RootFixed, Inside, NotEmpty, TooBig, NoNumbers}
+use Rattle.tree_model.specs.declared.refusal.Refusal.TheVariants.{Exists, NoNumbers}
 use Rattle.tree_model.specs.declared.reply.Reply.{Reply}
-use Rattle.tree_model.specs.Path.{Path, is_root, parent_of, strip}
+use Rattle.tree_model.specs.Path.{Path, parent_of}
 use Rattle.tree_model.specs.Tree.{Tree, node_at, with_node, without, is_directory, with_width, with_content_width, widened, moved, entries_of, is_used, least_unused, resized, written}
-use Rattle.tree_model.specs.Step.{step, attempt, settled, ◌>>=◌, refuse_if, or_refuse, walk, bytes_of, written_tree}
-use Rattle.tree_model.specs.Shape.{IsTree, shape_of, shape_at, after_rename}
+use Rattle.tree_model.specs.Step.{step, attempt, settled, refuse_if, or_refuse, walk, bytes_of, written_tree}
+use Rattle.tree_model.specs.Shape.{IsTree, shape_of, shape_at}
 use Rattle.tree_model.specs.Touched.{touched, touched_by, where_accepted, written_places, truncated_places, cut_place, places}
 use Rattle.tree_model.specs.Follow.{KeepsUntouched, ContentFollows, Follows, Follower, ComesFrom}
 use Rattle.tree_model.specs.Laws.{NodesFollow, TouchesOnly, WidthsNeverFall}

@@ -1,6 +1,6 @@
 -- Each command leaves a tree a tree.
-use Rattle.std.proofs.Common.{◌≡◌, ℕ, ◌≤◌, List, [], ◌∷◌, ◌++◌, true, false, not, refl, sym, ap, subst, ◌∙◌, Some, None, cond, inl, inr, append_assoc, append-nil, arith, length}
-use Rattle.std.specs.Prelude.{Result, Ok, Err, Option, Bool, ◌⊎◌, ◌||◌, ◌&&◌, is_some, nat_eq, max, nat_lt, ◌+◌}
+use Rattle.std.proofs.Common.{◌≡◌, ℕ, List, [], ◌∷◌, ◌++◌, true, false, not, refl, sym, ap, ◌∙◌, Some, None, cond, append_assoc, append-nil, arith, length}
+use Rattle.std.specs.Prelude.{Result, Ok, Err, Option, Bool, ◌||◌, ◌&&◌, is_some, nat_eq, max}
 use Rattle.std.proofs.lemmas.Bool.{eq-eqb}
 use Rattle.tree_model.specs.declared.command.Command.{Command}
 use Rattle.tree_model.specs.declared.command.Command.TheVariants.{Mkdir, Create, Write, Truncate, Remove, Rename, Read, List as ListOf, Stat, Layout, Space, Checkpoint, End}
@@ -8,16 +8,16 @@ use Rattle.tree_model.specs.declared.node.Node.{Node}
 use Rattle.tree_model.specs.declared.node.Content.{Content}
 use Rattle.tree_model.specs.declared.node.Content.TheVariants.{File, Directory}
 use Rattle.tree_model.specs.declared.refusal.Refusal.{Refusal}
-use Rattle.tree_model.specs.declared.refusal.Refusal.TheVariants.{NotFound, NotADirectory, IsADirectory, Exists, RootFixed, Inside, NotEmpty, TooBig, NoNumbers}
+use Rattle.tree_model.specs.declared.refusal.Refusal.TheVariants.{NotADirectory, Exists, RootFixed, Inside, NotEmpty, NoNumbers}
 use Rattle.tree_model.specs.declared.reply.Reply.{Reply}
 use Rattle.tree_model.specs.Path.{Path, is_root, parent_of, strip}
-use Rattle.tree_model.specs.Tree.{Tree, node_at, with_node, without, is_directory, holds_entries, with_width, with_content_width, widened, moved, moved_onto, entries_of, is_used, least_unused, written}
-use Rattle.tree_model.specs.Step.{step, attempt, settled, ◌>>=◌, refuse_if, or_refuse, walk, bytes_of, has_entries, written_tree}
+use Rattle.tree_model.specs.Tree.{Tree, node_at, with_node, without, is_directory, holds_entries, with_width, with_content_width, widened, moved, entries_of, is_used, least_unused, written}
+use Rattle.tree_model.specs.Step.{step, attempt, settled, refuse_if, or_refuse, walk, bytes_of, has_entries, written_tree}
 use Rattle.tree_model.specs.Order.{IsOrdered}
-use Rattle.tree_model.specs.Shape.{shape_of, shape_at, IsShape, IsTree, came_from, after_rename}
+use Rattle.tree_model.specs.Shape.{shape_of, shape_at, IsTree, came_from, after_rename}
 use Rattle.tree_model.proofs.Accepted.{with_ok, passed, held, there, walked, is_file, nothing}
-use Rattle.tree_model.proofs.AttemptLaws.{Accepts, after_all, put_at, ordered_put, ordered_without, ordered_moved, ordered_width, ordered_written}
-use Rattle.tree_model.proofs.Fronts.{tie, tie_is, strip_none}
+use Rattle.tree_model.proofs.AttemptLaws.{Accepts, after_all, put_at, ordered_put, ordered_without, ordered_moved, ordered_width}
+use Rattle.tree_model.proofs.Fronts.{tie, tie_is}
 use Rattle.tree_model.proofs.Lookups.{without_at, IsClear, moved_at, no_entry}
 use Rattle.tree_model.proofs.Numbers.{gives_least}
 use Rattle.tree_model.proofs.Renames.{renamed_shape}

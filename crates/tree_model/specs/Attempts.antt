@@ -1,4 +1,4 @@
--- What an attempt at a command says.
+-- What an attempt at a command says, and the check before it.
 use Rattle.std.specs.Prelude.{◌≡◌, Result, Ok, Err}
 use Rattle.tree_model.specs.declared.refusal.Refusal.{Refusal}
 use Rattle.tree_model.specs.declared.reply.Reply.{Reply}
@@ -11,3 +11,8 @@ abbrev pub Attempts : Tree → Tree → Result Reply StepFault → Result (Reply
 Attempts old new (Ok reply) answer = answer ≡ Ok (reply, new)
 Attempts old new (Err (faults.Refused refusal)) answer = (answer ≡ Err refusal) × (new ≡ old)
 Attempts old new (Err faults.Memory) answer = new ≡ old
+
+-- Refused as the definition refuses; else the definition gives the reply and the tree that come of what was found.
+abbrev pub Permits : {A : Type 0} → Result A Refusal → Result (Reply × Tree) Refusal → (A → Reply × Tree) → Type 0
+Permits (Ok found) answer done = answer ≡ Ok (done found)
+Permits (Err refusal) answer done = answer ≡ Err refusal

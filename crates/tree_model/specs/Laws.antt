@@ -1,5 +1,5 @@
 -- What holds of the definition of the tree, in words that its rules don't use.
-use Rattle.std.specs.Prelude.{◌≡◌, ◌≢◌, ◌≤◌, ◌<◌, ℕ, IsTrue, Bool, true, false, not, if◌then◌else◌, List, [], ◌++◌, ◌+◌, ◌/◌, length, Contains, Option, Some, None}
+use Rattle.std.specs.Prelude.{◌≡◌, ◌≢◌, ◌↔◌, ◌≤◌, ◌<◌, ℕ, true, false, if◌then◌else◌, List, [], ◌++◌, ◌+◌, ◌/◌, length, Contains, Some, None}
 use Rattle.std.specs.Ordering.{eq_by_cmp}
 use Rattle.tree_model.specs.declared.command.Command.{Command}
 use Rattle.tree_model.specs.declared.command.Command.TheVariants.{Write, Rename}
@@ -12,7 +12,7 @@ use Rattle.tree_model.specs.Order.{IsOrdered}
 use Rattle.tree_model.specs.Path.{Path, path_cmp, parent_of, strip}
 use Rattle.tree_model.specs.Shape.{IsTree}
 use Rattle.tree_model.specs.Tree.{Tree, new_tree, node_at, with_node, is_used, least_unused}
-use Rattle.tree_model.specs.Step.{step, is_change}
+use Rattle.tree_model.specs.Step.{step, refusal_of, is_change}
 use Rattle.tree_model.specs.Touched.{touched}
 
 -- a command leaves the tree in order
@@ -30,6 +30,14 @@ PutAt = (tree : Tree) (path : Path) (node : Node) (q : Path) → node_at (with_n
 -- a refused command leaves the tree
 abbrev pub RefusedLeaves : Type 0
 RefusedLeaves = (tree : Tree) (command : Command) (refusal : Refusal) → (step tree command).0 ≡ Refused refusal → (step tree command).1 ≡ tree
+
+-- a command's reply is a refusal exactly where the command has that refusal
+abbrev pub RefusalTells : Type 0
+RefusalTells = (tree : Tree) (command : Command) (refusal : Refusal) → (refusal_of tree command ≡ Some refusal) ↔ ((step tree command).0 ≡ Refused refusal)
+
+-- a change that isn't refused is done
+abbrev pub ChangesAreDone : Type 0
+ChangesAreDone = (tree : Tree) (command : Command) → is_change command ≡ true → refusal_of tree command ≡ None → (step tree command).0 ≡ Done
 
 -- a command that changes nothing leaves the tree
 abbrev pub ReadingLeaves : Type 0

@@ -1,5 +1,5 @@
 -- What a tree is besides a list: each path's front is a directory, and each number is of one path.
-use Rattle.std.specs.Prelude.{◌≡◌, ℕ, ◌≤◌, Bool, true, false, List, [], ◌∷◌, ◌++◌, Option, Some, None}
+use Rattle.std.specs.Prelude.{◌≡◌, ℕ, ◌≤◌, Bool, true, List, [], ◌∷◌, ◌++◌, Option, Some, None}
 use Rattle.tree_model.specs.declared.node.Node.{Node}
 use Rattle.tree_model.specs.Path.{Path, strip}
 use Rattle.tree_model.specs.Tree.{Tree, node_at, is_directory}

@@ -1,5 +1,6 @@
 -- What a command does to the tree, and what it is answered: the refusals of each in their order.
-use Rattle.std.specs.Prelude.{◌≡◌, ℕ, ◌+◌, Bool, true, false, not, ◌&&◌, List, [], ◌∷◌, ◌++◌, length, take, drop, Option, Some, None, Result, Ok, Err, is_some, nat_lt, nat_eq}
+use Rattle.std.specs.Prelude.{ℕ, ◌+◌, Bool, true, false, not, ◌&&◌, List, [], ◌∷◌, ◌++◌, length, take, drop, Option, Some, None, Result, Ok, Err, is_some, nat_lt, nat_eq}
+use Rattle.std.specs.Result.{result_err}
 use Rattle.tree_model.specs.declared.node.Node.{Node}
 use Rattle.tree_model.specs.declared.node.Content.{Content}
 use Rattle.tree_model.specs.declared.node.Content.TheVariants.{File, Directory}
@@ -147,6 +148,10 @@ attempt tree (Layout path) = layout tree path
 attempt tree Space = Ok (Done, tree)
 attempt tree Checkpoint = Ok (Done, tree)
 attempt tree End = Ok (Done, tree)
+
+-- why a command is refused, if it is
+abbrev pub refusal_of : Tree → Command → Option Refusal
+refusal_of tree command = result_err (attempt tree command)
 
 -- a refusal is a reply that leaves the tree
 abbrev pub settled : Tree → Result (Reply × Tree) Refusal → Reply × Tree

@@ -1,5 +1,5 @@
 //! Laws of the definition of the tree, each on a function whose contract it is.
-ghost use Rattle.tree_model.specs.Laws.{KeepsOrder, SameTree, PutAt, RefusedLeaves, ReadingLeaves, GivesLeast, KeepsTree, RenamesMove, NodesFollow, TouchesOnly, TouchesWritten, WidthsNeverFall};
+ghost use Rattle.tree_model.specs.Laws.{KeepsOrder, SameTree, PutAt, RefusedLeaves, RefusalTells, ChangesAreDone, ReadingLeaves, GivesLeast, KeepsTree, RenamesMove, NodesFollow, TouchesOnly, TouchesWritten, WidthsNeverFall};
 
 /// A command leaves the tree in the order of its paths, each path once.
 pub fn keeps_order()
@@ -19,6 +19,16 @@ pub fn put_at()
 /// A refused command leaves the tree.
 pub fn refused_leaves()
     ensures { RefusedLeaves }
+{}
+
+/// A command is answered by a refusal exactly where it has one, and by that one.
+pub fn refusal_tells()
+    ensures { RefusalTells }
+{}
+
+/// A change that has no refusal is answered as done.
+pub fn changes_are_done()
+    ensures { ChangesAreDone }
 {}
 
 /// Reads, lists, stats and writes of no bytes leave the tree.

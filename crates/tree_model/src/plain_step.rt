@@ -1,16 +1,16 @@
-//! The commands on a plain list of nodes, each as its rule says.
-ghost use Rattle.std.specs.Prelude.{◌≡◌, ◌<◌, ◌&&◌, [], IfOk, OnOk, OnErr, IsTrue, map, vec_len, vec_capacity};
+//! The commands on a plain list of nodes, each as its rule says: its check, and then its change.
+ghost use Rattle.std.specs.Prelude.{◌≡◌, ◌<◌, [], IfOk, OnOk, OnErr, IsTrue, map, vec_len, vec_capacity};
 ghost use Rattle.tree_model.specs.Attempts.{Attempts};
 ghost use Rattle.tree_model.specs.Path.{parent_of};
-ghost use Rattle.tree_model.specs.Tree.{is_directory, moved, new_path, widened};
-ghost use Rattle.tree_model.specs.Step.{make, write, truncate, read, remove, rename, list, stat, size_of, has_entries, attempt, is_plain};
+ghost use Rattle.tree_model.specs.Tree.{moved, new_path, widened};
+ghost use Rattle.tree_model.specs.Step.{make, write, truncate, read, remove, rename, list, stat, size_of, attempt, is_plain};
 ghost use Rattle.tree_model.specs.declared.plain_step.StepFault.TheVariants.{Memory, Refused};
 
-use crate::node_list::{
-    entries_of, entry_count, find_node, is_directory, kind_of, least_unused, put, take_away, walk,
-    widen,
-};
+use crate::node_list::{entries_of, entry_count, kind_of, put, take_away, walk, widen};
 use crate::path_names::{copied, joined, parent_names, strip};
+use crate::refusals::{
+    OldFile, may_list, may_make, may_read, may_remove, may_rename, may_truncate, may_write,
+};
 use crate::{Command, Content, EntryList, NameList, Node, Path, Refusal, Reply, file_bytes};
 use std::alloc::{AllocError, Global};
 use vol_numbers::{ByteList, Name};
@@ -46,19 +46,7 @@ fn make(
 ) -> Result<Reply, StepFault>
     ensures { Attempts nodes.old.items nodes.new.items result (make nodes.old.items path.now content) }
 {
-    if path.names().is_empty() {
-        return Err(StepFault::Refused(Refusal::Exists));
-    }
-    let above = walk(nodes, parent_names(path.names()))?;
-    if !is_directory(above) {
-        return Err(StepFault::Refused(Refusal::NotADirectory));
-    }
-    if find_node(nodes, path.names()).is_some() {
-        return Err(StepFault::Refused(Refusal::Exists));
-    }
-    let Some(number) = least_unused(nodes) else {
-        return Err(StepFault::Refused(Refusal::NoNumbers));
-    };
+    let number = may_make(nodes, path)?;
     let at = copied(alloc, path.names())?;
     let parent = copied(alloc, parent_names(path.names()))?;
     nodes.reserve(2)?;
@@ -76,18 +64,11 @@ fn write(
 ) -> Result<Reply, StepFault>
     ensures { Attempts nodes.old.items nodes.new.items result (write nodes.old.items path.now offset bytes.now) }
 {
-    let node = walk(nodes, path.names())?;
-    let Content::File(old) = &node.content else {
-        return Err(StepFault::Refused(Refusal::IsADirectory));
-    };
-    if offset.saturating_add(bytes.len() as u64) > 4_294_967_296 {
-        return Err(StepFault::Refused(Refusal::TooBig));
-    }
+    let OldFile { number, bytes: old } = may_write(nodes, path, offset, bytes)?;
     if bytes.is_empty() {
         return Ok(Reply::Done);
     }
-    let number = node.number;
-    let content = Content::File(file_bytes::written(alloc, old.as_slice(), offset, bytes)?);
+    let content = Content::File(file_bytes::written(alloc, old, offset, bytes)?);
     let at = copied(alloc, path.names())?;
     nodes.reserve(1)?;
     put(nodes, at, Node { number, content });
@@ -102,43 +83,19 @@ fn truncate(
 ) -> Result<Reply, StepFault>
     ensures { Attempts nodes.old.items nodes.new.items result (truncate nodes.old.items path.now size) }
 {
-    let node = walk(nodes, path.names())?;
-    let Content::File(old) = &node.content else {
-        return Err(StepFault::Refused(Refusal::IsADirectory));
-    };
-    if size > 4_294_967_296 {
-        return Err(StepFault::Refused(Refusal::TooBig));
-    }
-    let number = node.number;
-    let content = Content::File(file_bytes::resized(alloc, old.as_slice(), size)?);
+    let OldFile { number, bytes: old } = may_truncate(nodes, path, size)?;
+    let content = Content::File(file_bytes::resized(alloc, old, size)?);
     let at = copied(alloc, path.names())?;
     nodes.reserve(1)?;
     put(nodes, at, Node { number, content });
     Ok(Reply::Done)
 }
 
-// Whether a node is a directory with entries.
-fn is_full(nodes: &[(NameList, Node)], path: &[Name], node: &Node) -> bool
-    ensures { result ≡ (is_directory node.now && has_entries nodes.now path.now) }
-{
-    if !is_directory(node) {
-        return false;
-    }
-    entry_count(nodes, path) != 0
-}
-
 fn remove(nodes: &mut Vec<(NameList, Node)>, path: &Path) -> Result<Reply, StepFault>
     ensures { Attempts nodes.old.items nodes.new.items result (remove nodes.old.items path.now) }
 {
-    let names = path.names();
-    let node = walk(nodes, names)?;
-    if names.is_empty() {
-        return Err(StepFault::Refused(Refusal::RootFixed));
-    }
-    if is_full(nodes, names, node) {
-        return Err(StepFault::Refused(Refusal::NotEmpty));
-    }
-    take_away(nodes, names);
+    may_remove(nodes, path)?;
+    take_away(nodes, path.names());
     Ok(Reply::Done)
 }
 
@@ -200,23 +157,7 @@ fn rename(
 ) -> Result<Reply, StepFault>
     ensures { Attempts nodes.old.items nodes.new.items result (rename nodes.old.items from.now to.now) }
 {
-    walk(nodes, from.names())?;
-    if to.names().is_empty() {
-        return Err(StepFault::Refused(Refusal::Exists));
-    }
-    let above = walk(nodes, parent_names(to.names()))?;
-    if !is_directory(above) {
-        return Err(StepFault::Refused(Refusal::NotADirectory));
-    }
-    if find_node(nodes, to.names()).is_some() {
-        return Err(StepFault::Refused(Refusal::Exists));
-    }
-    if from.names().is_empty() {
-        return Err(StepFault::Refused(Refusal::RootFixed));
-    }
-    if strip(from.names(), to.names()).is_some() {
-        return Err(StepFault::Refused(Refusal::Inside));
-    }
+    may_rename(nodes, from, to)?;
     move_below(alloc, nodes, from.names(), to.names())?;
     Ok(Reply::Done)
 }
@@ -250,22 +191,15 @@ fn read(
 ) -> Result<Reply, StepFault>
     ensures { Attempts nodes.now nodes.now result (read nodes.now path.now offset length) }
 {
-    let node = walk(nodes, path.names())?;
-    match &node.content {
-        Content::Directory { .. } => Err(StepFault::Refused(Refusal::IsADirectory)),
-        Content::File(bytes) => {
-            let part = file_bytes::part(alloc, bytes.as_slice(), offset, length)?;
-            Ok(Reply::Data(part))
-        }
-    }
+    let bytes = may_read(nodes, path)?;
+    let part = file_bytes::part(alloc, bytes, offset, length)?;
+    Ok(Reply::Data(part))
 }
 
 fn list(alloc: Global, nodes: &[(NameList, Node)], path: &Path) -> Result<Reply, StepFault>
     ensures { Attempts nodes.now nodes.now result (list nodes.now path.now) }
 {
-    if !is_directory(walk(nodes, path.names())?) {
-        return Err(StepFault::Refused(Refusal::NotADirectory));
-    }
+    may_list(nodes, path)?;
     let entries = entries_of(alloc, nodes, path.names())?;
     Ok(Reply::Entries(EntryList::from_vec(entries)))
 }

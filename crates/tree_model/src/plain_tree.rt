@@ -1,10 +1,11 @@
 //! The tree kept plainly, as a list of its nodes in the order of their paths.
 ghost use Rattle.std.specs.Prelude.{◌≡◌, OnErr, IfOk, IsTrue};
-ghost use Rattle.tree_model.specs.Step.{step, is_plain};
+ghost use Rattle.tree_model.specs.Step.{step, refusal_of, is_plain};
 ghost use Rattle.tree_model.specs.Tree.{new_tree};
 
 use crate::plain_step::{StepFault, attempt};
-use crate::{Command, Content, NameList, Node, Reply};
+use crate::refusals::refusal;
+use crate::{Command, Content, NameList, Node, Refusal, Reply};
 use std::alloc::{AllocError, Global};
 use std::marker::Model;
 
@@ -34,6 +35,14 @@ impl PlainTree {
         };
         nodes.push((NameList::new(alloc), root))?;
         Ok(PlainTree { nodes })
+    }
+
+    /// Why the command would be refused, if it would be. Takes no memory and copies no bytes.
+    pub fn refusal(&self, command: &Command) -> Option<Refusal>
+        requires { IsTrue (is_plain command.now) }
+        ensures { result ≡ refusal_of self.now command.now }
+    {
+        refusal(&self.nodes, command)
     }
 
     /// Does a command, and answers it. Want of memory leaves the tree as it is.

@@ -157,6 +157,30 @@ fn refusals_come_in_their_order(rt: HostRuntime) -> Result<(), Fail> {
     Ok(())
 }
 
+// The number of a refusal, and 0 where there is none.
+fn number_told(refusal: Option<Refusal>) -> u32 {
+    match refusal {
+        None => 0,
+        Some(refusal) => refusal.number(),
+    }
+}
+
+#[test]
+fn a_refusal_is_told_before_the_step(rt: HostRuntime) -> Result<(), Fail> {
+    let alloc = rt.alloc();
+    let mut tree = PlainTree::new(alloc)?;
+    for (act, want) in REFUSALS {
+        let command = command(alloc, act)?;
+        if !command.is_plain() {
+            return Err(Fail::new("not of the tree"));
+        }
+        let told = number_told(tree.refusal(&command));
+        assert_eq!(rt; told, want);
+        assert_eq!(rt; number(&tree.step(&command)?), told);
+    }
+    Ok(())
+}
+
 const AT_THE_LIMIT: [(Act<'static>, u32); 7] = [
     (Act::Create(b"z"), 0),
     (Act::Write(b"z", 4_294_967_295, b"xy"), 10),
