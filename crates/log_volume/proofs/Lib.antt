@@ -6,3 +6,4 @@ pub mod ImageLaws
 pub mod LoggingLemmas
 pub mod MountLemmas
 pub mod ReplayLemmas
+pub mod AnswerLemmas

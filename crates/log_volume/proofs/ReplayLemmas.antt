@@ -1,5 +1,5 @@
 -- Commands that are done in turn, and what they make of a log.
-use Rattle.std.proofs.Common.{◌≡◌, ◌∙◌, ◌<◌, ◌≤◌, ◌+◌, inl, ℕ, zero, suc, Bool, true, List, [], ◌∷◌, ◌++◌, length, take, Option, Some, None, refl, sym, ap, subst, arith, add-one, length-append}
+use Rattle.std.proofs.Common.{◌≡◌, ◌∙◌, ◌<◌, ◌≤◌, ◌+◌, inl, ℕ, zero, suc, Bool, true, List, [], ◌∷◌, ◌++◌, length, get_or, take, Option, Some, None, refl, sym, ap, subst, arith, add-one, length-append}
 use Rattle.std.specs.Prelude.{slice_get, IsTrue, IfSome, IfNone}
 use Rattle.vol_numbers.specs.Layout.{log_start}
 use Rattle.vol_numbers.specs.declared.block.Block.{Block}
@@ -9,7 +9,9 @@ use Rattle.root_switch.specs.Current.{root_of_image}
 use Rattle.tree_model.specs.Tree.{Tree}
 use Rattle.tree_model.specs.declared.command.Command.{Command}
 use Rattle.tree_model.specs.declared.command.Command.TheVariants.{Mkdir, Create, Write, Truncate, Remove, Rename, Read, List as ListOf, Stat, Layout, Space, Checkpoint, End}
-use Rattle.tree_model.specs.Step.{is_plain}
+use Rattle.tree_model.specs.declared.reply.Reply.{Reply}
+use Rattle.tree_model.specs.declared.reply.Reply.TheVariants.{Done}
+use Rattle.tree_model.specs.Step.{step, is_plain}
 use Rattle.op_log.specs.Log.{HoldsRecords, RecordsStand, IsFirstBad, blocks_of}
 use Rattle.op_log.specs.Record.{HasRecord, record_blocks}
 use Rattle.op_log.proofs.LogLemmas.{one_log}
@@ -18,7 +20,7 @@ use Rattle.log_volume.specs.Image.{LogHolds, Logs, layout_in, records_in, used_i
 use Rattle.log_volume.specs.Replay.{Kept, nothing_kept, after, IsDone, DoesEach}
 use Rattle.log_volume.specs.Replaying.{ReadsFront, IsRefusedAt}
 use Rattle.log_volume.specs.declared.replaying.Front.{Front}
-use Rattle.log_volume.proofs.ImageLaws.{used_after}
+use Rattle.log_volume.proofs.ImageLaws.{used_after, does-push, after-push}
 
 -- what has a record is a command of the tree
 pub record_plain : (c : Command) → HasRecord c → IsTrue (is_plain c)
@@ -50,6 +52,12 @@ item_at : {X : Type 0} (xs : List X) (i : ℕ) → i < length xs → (x : X) × 
 item_at [] i lt = absurd (omega arith)
 item_at (x ∷ xs) zero lt = (x, refl)
 item_at (x ∷ xs) (suc i) lt = item_at xs i (omega arith)
+
+-- what stands at an index
+pub there_is : {X : Type 0} (xs : List X) (i : ℕ) (x : X) → i < length xs → x ≡ get_or xs i x → slice_get xs i ≡ Some x
+there_is [] i x lt is = absurd (omega arith)
+there_is (y ∷ xs) zero x lt is = ap (λ (z : _). Some z) (sym is)
+there_is (y ∷ xs) (suc i) x lt is = there_is xs i x (omega arith) is
 
 same_last : {X : Type 0} (xs : List X) (a b : X) → xs ++ a ∷ [] ≡ xs ++ b ∷ [] → a ≡ b
 same_last [] a b e = cc
@@ -127,10 +135,10 @@ module _ (tells : Bool) (image : List Block) (body : RootBody) (front : Front) (
       }
 
   -- they are all, fill the log and are done
-  pub all_logs : (tree : Tree) → front.bad ≡ None → DoesEach nothing_kept commands → tree ≡ (after commands nothing_kept).tree → (blocks_of commands < body.log_used → ⊥)
+  pub all_logs : (tree : Tree) → front.bad ≡ None → DoesEach nothing_kept commands → tree ≡ (after commands nothing_kept).tree → body.log_used ≤ blocks_of commands
       → Logs image (record { tree = tree; used = body.log_used })
   all_logs tree none done made full =
-      let filled : blocks_of commands ≡ body.log_used = grind (arith, reads.within, full) in
+      let filled : blocks_of commands ≡ body.log_used = omega (arith, reads.within, full) in
       let used : body.log_used ≡ (after commands nothing_kept).used = omega (arith, filled, used_after commands nothing_kept) in
       record {
         commands = commands;
@@ -140,3 +148,23 @@ module _ (tells : Bool) (image : List Block) (body : RootBody) (front : Front) (
         done = done;
         is = λ i. record { tree = made i; used = used i };
       }
+
+-- the next command is done too
+pub does_next : (cs : List Command) (i : ℕ) (c : Command) (tree new : Tree) → slice_get cs i ≡ Some c → DoesEach nothing_kept (take i cs) → tree ≡ (after (take i cs) nothing_kept).tree
+    → step tree c ≡ (Done, new) → DoesEach nothing_kept (take (i + 1) cs) × (new ≡ (after (take (i + 1) cs) nothing_kept).tree)
+does_next cs i c tree new there does made stepped =
+    let longer : take (i + 1) cs ≡ take i cs ++ c ∷ [] = ap (λ (n : ℕ). take n cs) (add-one i) ∙ take_next i cs c there in
+    let here : step (after (take i cs) nothing_kept).tree c ≡ (Done, new) = ap (λ (t : Tree). step t c) (sym made) ∙ stepped in (
+      subst (DoesEach nothing_kept) (sym longer) (does-push (take i cs) c nothing_kept does (ap (λ (r : Reply × Tree). r.0) here)),
+      sym (ap (λ (r : Reply × Tree). r.1) here) ∙ sym (ap (λ (k : Kept). k.tree) (ap (λ (l : List Command). after l nothing_kept) longer ∙ after-push (take i cs) c nothing_kept)),
+    )
+
+-- the next command is not done
+pub refused_next : (cs : List Command) (i : ℕ) (c : Command) (tree new : Tree) (reply : Reply) → i < length cs → slice_get cs i ≡ Some c → DoesEach nothing_kept (take i cs)
+    → tree ≡ (after (take i cs) nothing_kept).tree → step tree c ≡ (reply, new) → (reply ≡ Done → ⊥) → IsRefusedAt cs i
+refused_next cs i c tree new reply lt there does made stepped not = record {
+  within = lt;
+  done = does;
+  refused = subst (λ (o : Option Command). IfSome o (λ command. IsDone (after (take i cs) nothing_kept) command → ⊥)) (sym there)
+      (λ done. not (sym (ap (λ (r : Reply × Tree). r.0) stepped) ∙ ap (λ (t : Tree). (step t c).0) made ∙ done));
+}

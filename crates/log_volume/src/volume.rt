@@ -1,5 +1,5 @@
 //! A volume whose tree is made by the records of its log alone.
-ghost use Rattle.std.specs.Prelude.{◌≡◌, ◌≢◌, ◌≤◌, ◌+◌, ◌↔◌, ℕ, [], true, false, IfOk, OnOk, OnErr, IsOk, IsErrOf, IsTrue};
+ghost use Rattle.std.specs.Prelude.{◌≡◌, ◌≢◌, ◌<◌, ◌≤◌, ◌+◌, ◌↔◌, ℕ, [], true, false, IfOk, OnOk, OnErr, IsOk, IsErrOf, IsTrue};
 ghost use Rattle.vol_numbers.specs.Cause.{HasCause};
 ghost use Rattle.disk_model.specs.Disk.{EachImage};
 ghost use Rattle.disk_model.specs.Past.{Adds};
@@ -167,7 +167,9 @@ impl LogVolume {
         ensures fixed { D.fixed disk.new ≡ D.fixed disk.old }
         ensures cause { HasCause (D.faults disk.old) (D.faults disk.new) result }
     {
-        // REFUSAL
+        if let Some(refusal) = self.tree.refusal(command) {
+            return Ok(Answer::Reply(Reply::Refused(refusal)));
+        }
         let body = &self.current.body;
         if record_blocks(command) > body.geometry.log_blocks() - body.log_used {
             return Ok(Answer::LogFull);
@@ -175,7 +177,12 @@ impl LogVolume {
         if self.tree.step(command).is_err() {
             return Ok(out_of_memory());
         }
-        self.current = log(disk, &self.current, command)?;
-        Ok(Answer::Reply(Reply::Done))
+        match log(disk, &self.current, command) {
+            Ok(next) => {
+                self.current = next;
+                Ok(Answer::Reply(Reply::Done))
+            }
+            Err(fault) => Err(fault),
+        }
     }
 }

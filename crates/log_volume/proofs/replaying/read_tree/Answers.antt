@@ -1,4 +1,4 @@
-use Rattle.std.proofs.Common.{◌≡◌, List, subst}
+use Rattle.std.proofs.Common.{◌≡◌, List, subst, arith}
 use Rattle.tree_model.specs.declared.command.Command.{Command}
 use Rattle.tree_model.specs.Tree.{Tree}
 use Rattle.log_volume.specs.Replay.{nothing_kept, after, DoesEach}
@@ -18,4 +18,4 @@ returns-in-Some-clause-found g c tells =
 pub returns-clause-logs : goal.returns-clause-logs
 returns-clause-logs g c tells =
     all_logs g.D.Disk.tells _ c.args.body.now c.in_ok-front.front tells c.in_ok-front.ensures.front (c.requires.root tells) c.in-Ok.tree c.in_default.is (subst (DoesEach nothing_kept) c.as_slice.ensures c.in-Ok.ensures.done)
-    (subst (λ (l : List Command). c.in-Ok.tree ≡ (after l nothing_kept).tree) c.as_slice.ensures c.in-Ok.ensures.is) c.if-blocks_of-body.false
+    (subst (λ (l : List Command). c.in-Ok.tree ≡ (after l nothing_kept).tree) c.as_slice.ensures c.in-Ok.ensures.is) (omega (arith, c.if-blocks_of-body.false, c.blocks_of.ensures))
