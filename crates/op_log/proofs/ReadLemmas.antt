@@ -1,5 +1,5 @@
 -- What the blocks that were read say of the records that may stand there.
-use Rattle.std.proofs.Common.{◌≡◌, ◌∙◌, ◌+◌, ◌-◌, ◌*◌, ◌<◌, ◌≤◌, ℕ, List, ◌++◌, length, take, drop, refl, sym, ap, subst, arith, below_more, Option, Some, None}
+use Rattle.std.proofs.Common.{◌≡◌, ◌∙◌, ◌+◌, ◌-◌, ◌*◌, ◌<◌, ◌≤◌, ℕ, List, ◌++◌, length, take, drop, sym, ap, arith, below_more, Option, Some, None}
 use Rattle.std.specs.Prelude.{slice_get, IfNone}
 use Rattle.std.proofs.lemmas.Option.{same_Some}
 use Rattle.std.proofs.lemmas.List.{drop-append-le, drop-take, get_or_append_left, length-drop, take-append-drop, take-take, take_all}
@@ -11,9 +11,8 @@ use Rattle.disk_model.specs.Past.{Past, Adds}
 use Rattle.disk_model.proofs.Moments.{adds_then}
 use Rattle.tree_model.specs.declared.command.Command.{Command}
 use Rattle.op_log.specs.Log.{RecordStands}
-use Rattle.op_log.specs.Record.{Fields, HasRecord, fields_of, record_block, record_blocks}
+use Rattle.op_log.specs.Record.{HasRecord, record_block, record_blocks}
 use Rattle.op_log.specs.Reading.{AreBlocks, IsWhole, Spells, blocks_in, bytes_block, head_in}
-use Rattle.op_log.specs.declared.head.Head.{Head}
 use Rattle.op_log.proofs.RecordLemmas.{first_head}
 
 -- one read more

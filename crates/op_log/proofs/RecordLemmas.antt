@@ -1,5 +1,5 @@
 -- A record is read as it was spelled.
-use Rattle.std.proofs.Common.{◌≡◌, ◌∙◌, ◌+◌, ◌-◌, ◌*◌, ◌^◌, ◌<◌, ◌≤◌, ⊎_elim, ℕ, zero, suc, List, [], ◌∷◌, ◌++◌, length, take, drop, refl, sym, ap, arith, length-drop}
+use Rattle.std.proofs.Common.{◌≡◌, ◌∙◌, ◌+◌, ◌-◌, ◌*◌, ◌^◌, ◌<◌, ◌≤◌, ⊎_elim, ℕ, zero, suc, List, [], ◌++◌, length, take, drop, refl, sym, ap, arith, length-drop}
 use Rattle.std.specs.Prelude.{replicate}
 use Rattle.std.proofs.Math.Seq.{take-add}
 use Rattle.std.proofs.lemmas.Bool.{cases_lt}
@@ -10,7 +10,7 @@ use Rattle.tree_model.specs.Path.{Path}
 use Rattle.tree_model.specs.declared.command.Command.{Command}
 use Rattle.tree_model.specs.declared.command.Command.TheVariants.{Mkdir, Create, Write, Truncate, Remove, Rename, Read, List as ListOf, Stat, Layout, Space, Checkpoint, End}
 use Rattle.op_log.specs.Record.{Fields, HasRecord, IsLogPath, blocks_for, fields_of, filled, header, path_bytes, record_block, record_blocks, record_text, text_block, text_of}
-use Rattle.op_log.specs.Reading.{blocks_in, bytes_block, fields_in, head_in, HasLimits, Spells}
+use Rattle.op_log.specs.Reading.{fields_in, head_in, HasLimits, Spells}
 use Rattle.op_log.specs.declared.head.Head.{Head}
 use Rattle.op_log.proofs.DraftLemmas.{length-header}
 use Rattle.op_log.proofs.PathLemmas.{length-path_bytes}

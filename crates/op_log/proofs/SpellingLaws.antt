@@ -1,6 +1,6 @@
 -- Each spelling has one command.
 use Rattle.std.proofs.Common.{◌≡◌, ◌∙◌, ◌+◌, ◌*◌, ◌<◌, ◌≤◌, ℕ, zero, suc, List, [], ◌++◌, length, take, drop, refl, sym, ap, arith, length-drop}
-use Rattle.std.specs.Prelude.{slice_get, replicate, ◌-◌}
+use Rattle.std.specs.Prelude.{replicate, ◌-◌}
 use Rattle.std.proofs.lemmas.Option.{same_Some}
 use Rattle.std.proofs.lemmas.List.{append-nil, drop-drop, length-append, length-replicate, length-take, nil_from_length, take-append-drop, take_all, take_at}
 use Rattle.vol_numbers.specs.declared.block.Block.{Block}
@@ -9,7 +9,7 @@ use Rattle.tree_model.specs.declared.command.Command.{Command}
 use Rattle.tree_model.specs.declared.command.Command.TheVariants.{Mkdir, Create, Write, Truncate, Remove, Rename, Read, List as ListOf, Stat, Layout, Space, Checkpoint, End}
 use Rattle.op_log.specs.Log.{RecordStands}
 use Rattle.op_log.specs.Record.{Fields, HasRecord, IsLogPath, fields_of, filled, path_bytes, record_block, record_blocks, record_text, text_block}
-use Rattle.op_log.specs.Reading.{fields_in, head_in}
+use Rattle.op_log.specs.Reading.{fields_in}
 use Rattle.op_log.specs.declared.head.Head.{Head}
 use Rattle.op_log.proofs.NameLemmas.{path_bytes-same}
 use Rattle.op_log.proofs.RecordLemmas.{fields_fit, fields_in-text, first_head, head_of, length-text, text_fits}

@@ -57,9 +57,11 @@ abbrev pub path_bytes : Path → List ℕ
 path_bytes [] = []
 path_bytes (name ∷ names) = 47 ∷ name ++ path_bytes names
 
+-- the fields of a command that has no record
 abbrev pub no_fields : Fields
 no_fields = record { kind = 0; number = 0; path = []; rest = [] }
 
+-- what the record of a command says
 abbrev pub fields_of : Command → Fields
 fields_of (Mkdir path) = record { kind = 1; number = 0; path = path_bytes path; rest = [] }
 fields_of (Create path) = record { kind = 2; number = 0; path = path_bytes path; rest = [] }
@@ -79,10 +81,11 @@ fields_of End = no_fields
 unfoldable pub header : ℕ → ℕ → ℕ → ℕ → List ℕ
 header kind path_length number rest_length = (kind ∷ 0 ∷ 0 ∷ 0 ∷ []) ++ little_bytes 4 path_length ++ little_bytes 8 number ++ little_bytes 4 rest_length ++ replicate 4 0
 
--- the bytes of a record
+-- the bytes of a record with these fields
 abbrev pub text_of : Fields → List ℕ
 text_of f = header f.kind (length f.path) f.number (length f.rest) ++ f.path ++ f.rest
 
+-- the bytes of the record of a command, before the zeros at its end
 abbrev pub record_text : Command → List ℕ
 record_text c = text_of (fields_of c)
 

@@ -1,4 +1,4 @@
-use Rattle.std.proofs.Common.{◌≡◌, ◌∙◌, ◌+◌, ◌-◌, ◌<◌, ◌++◌, ◌∷◌, [], ℕ, List, length, take, drop, sym, ap, subst, arith, Some}
+use Rattle.std.proofs.Common.{◌≡◌, ◌∙◌, ◌+◌, ◌-◌, ◌<◌, ℕ, List, length, take, drop, sym, ap, subst, arith, Some}
 use Rattle.std.proofs.lemmas.List.{take_rest, nil_from_length}
 use Rattle.tree_model.specs.Path.{Path}
 use Rattle.op_log.proofs.NameLemmas.{Left, left_more, left_none, left_end}

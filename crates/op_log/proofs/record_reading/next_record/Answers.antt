@@ -1,4 +1,4 @@
-use Rattle.std.proofs.Common.{◌≡◌, List, ℕ, sym, subst}
+use Rattle.std.proofs.Common.{List, ℕ, sym, subst}
 use Rattle.vol_numbers.specs.declared.block.Block.{Block}
 use Rattle.op_log.specs.Reading.{Spells}
 use Rattle.op_log.proofs.ReadLemmas.{if_none_weaker, stands_spells}

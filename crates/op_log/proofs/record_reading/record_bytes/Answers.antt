@@ -1,9 +1,8 @@
-use Rattle.std.proofs.Common.{◌≡◌, ◌∙◌, ◌*◌, ◌<◌, ◌≤◌, ℕ, List, sym, ap, subst, arith}
+use Rattle.std.proofs.Common.{◌≡◌, ◌∙◌, ◌*◌, ℕ, List, sym, ap, subst, arith}
 use Rattle.std.proofs.lemmas.Bool.{false≢true}
 use Rattle.vol_numbers.specs.declared.block.Block.{Block}
 use Rattle.disk_model.specs.Disk.{State}
 use Rattle.op_log.specs.Reading.{AreBlocks, HasLimits, blocks_in, head_in}
-use Rattle.op_log.specs.declared.head.Head.{Head}
 use Rattle.op_log.proofs.RecordLemmas.{first_limits}
 use Rattle.op_log.proofs.ReadLemmas.{adds_read, blocks_same, first_same, head_stays}
 use Rattle.op_log.proofs.record_reading.record_bytes.Goals as goal

@@ -1,4 +1,4 @@
-use Rattle.std.proofs.Common.{◌≡◌, ◌∙◌, ◌-◌, ◌*◌, ◌++◌, List, ℕ, length, take, drop, sym, ap}
+use Rattle.std.proofs.Common.{◌≡◌, ◌∙◌, ◌-◌, ◌*◌, ◌++◌, List, ℕ, length, take, drop, ap}
 use Rattle.std.proofs.lemmas.List.{take_min, take_rest, drop_min}
 use Rattle.op_log.specs.Record.{filled}
 use Rattle.op_log.proofs.spelling.later_block.Goals as goal

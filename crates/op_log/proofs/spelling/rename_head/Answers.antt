@@ -1,6 +1,3 @@
-use Rattle.std.proofs.Common.{◌≡◌, length}
-use Rattle.tree_model.specs.Path.{path_length}
-use Rattle.op_log.specs.Record.{path_bytes, header}
 use Rattle.op_log.proofs.PathLemmas.{length-path_bytes}
 use Rattle.op_log.proofs.spelling.rename_head.Goals as goal
 

@@ -1,4 +1,4 @@
-use Rattle.std.proofs.Common.{◌≡◌, ◌∙◌, ◌-◌, ◌*◌, ◌≤◌, ◌++◌, List, ℕ, length, take, drop, sym, ap, arith}
+use Rattle.std.proofs.Common.{◌∙◌, ◌-◌, ◌*◌, ◌≤◌, ◌++◌, List, ℕ, length, take, drop, sym, ap, arith}
 use Rattle.op_log.specs.Record.{filled}
 use Rattle.op_log.proofs.PieceLemmas.{drop-append-over}
 use Rattle.op_log.proofs.spelling.Spelling.block.Goals as goal
