@@ -1,0 +1,36 @@
+-- What a list of bytes begins with.
+use Rattle.std.specs.Prelude.{ℕ, ◌+◌, ◌==◌, nat_le, if◌then◌else◌, Bool, List, length, take, drop, position, slice_index, Option, Some, None}
+use Rattle.tree_model.specs.declared.command.Command.TheVariants as command
+use Rattle.command_text.specs.declared.item.Item.{Item}
+use Rattle.command_text.specs.declared.line.Line.{Line}
+use Rattle.command_text.specs.declared.line.Line.TheVariants.{Alone, Write}
+use Rattle.command_text.specs.Lines.{line_in, on_path}
+
+-- an item with how many bytes spell it, what begins no item however it goes on, or less than an item
+pub data Front : Type 0 where
+  Whole : Item → ℕ → Front
+  Wrong : Front
+  Partial : Front
+
+abbrev pub is_newline : ℕ → Bool
+is_newline b = b == 10
+
+-- The data of a write have one newline behind them. Where the path is none they are dropped.
+abbrev pub front_of_data : Option (List (List ℕ)) → ℕ → ℕ → ℕ → List ℕ → Front
+front_of_data path offset count line_count bytes =
+    if nat_le (length bytes) count then Partial
+    else if is_newline (slice_index bytes count) then Whole (on_path path (λ p. command.Write p offset (take count bytes))) (line_count + count + 1)
+    else Wrong
+
+-- a line that takes so many bytes with its newline, and the bytes behind it
+abbrev pub front_of_line : Line → ℕ → List ℕ → Front
+front_of_line (Alone item) line_count bytes = Whole item line_count
+front_of_line (Write path offset count) line_count bytes = front_of_data path offset count line_count bytes
+
+-- A line goes up to the first newline. It has at most 8,192 bytes without it.
+abbrev pub front_up_to : List ℕ → Option ℕ → Front
+front_up_to bytes None = if nat_le (length bytes) 8192 then Partial else Wrong
+front_up_to bytes (Some i) = if nat_le i 8192 then front_of_line (line_in (take i bytes)) (i + 1) (drop (i + 1) bytes) else Wrong
+
+unfoldable pub front : List ℕ → Front
+front bytes = front_up_to bytes (position is_newline bytes)

@@ -1,0 +1,5 @@
+pub mod Front
+pub mod Lines
+pub mod Numbers
+pub mod Paths
+pub mod Text

@@ -1,0 +1,13 @@
+//! The text of a session: commands are read from any pieces of bytes, and answers become one text.
+#![tactic(auto)]
+
+mod cut;
+mod fault;
+mod item;
+mod line;
+mod number;
+mod path;
+mod verb;
+
+pub use fault::{PutFault, TextFault};
+pub use item::Item;
