@@ -1,3 +1,5 @@
+pub mod FillLemmas
+pub mod HeldLemmas
 pub mod LineLemmas
 pub mod NameLemmas
 pub mod NumberLemmas

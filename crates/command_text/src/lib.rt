@@ -3,11 +3,14 @@
 
 mod cut;
 mod fault;
+mod held;
 mod item;
 mod line;
 mod number;
 mod path;
+mod reader;
 mod verb;
 
 pub use fault::{PutFault, TextFault};
 pub use item::Item;
+pub use reader::CommandReader;
