@@ -1,3 +1,4 @@
+pub mod FrontLemmas
 pub mod FillLemmas
 pub mod HeldLemmas
 pub mod LineLemmas

@@ -4,34 +4,32 @@ use Rattle.std.specs.List.{list_all, slice_split}
 use Rattle.tree_model.specs.declared.command.Command.{Command}
 use Rattle.tree_model.specs.declared.command.Command.TheVariants.{Mkdir, Create, Truncate, Remove, Rename, Read, List as ListOf, Stat, Layout, Space, Checkpoint, End}
 use Rattle.tree_model.specs.declared.refusal.Refusal.TheVariants.{BadCommand, BadName}
-use Rattle.command_text.specs.declared.item.Item.{Item}
-use Rattle.command_text.specs.declared.item.Item.TheVariants as item
 use Rattle.command_text.specs.declared.verb.PathVerb.{PathVerb}
 use Rattle.command_text.specs.declared.verb.PathVerb.TheVariants as verb
 use Rattle.command_text.specs.declared.line.Line.{Line}
-use Rattle.command_text.specs.declared.line.Line.TheVariants.{Alone, Write}
+use Rattle.command_text.specs.declared.line.Line.TheVariants as line
 use Rattle.command_text.specs.Numbers.{number_in, length_in}
 use Rattle.command_text.specs.Paths.{path_in}
 
 -- what is no line of a command
 abbrev pub bad_command : Line
-bad_command = Alone (item.Refused BadCommand)
+bad_command = line.Refused BadCommand
 
 -- a path field that writes no path
 abbrev pub bad_name : Line
-bad_name = Alone (item.Refused BadName)
+bad_name = line.Refused BadName
 
 -- a command on a path, which is refused where the field writes none
-abbrev pub on_path : Option (List (List ℕ)) → (List (List ℕ) → Command) → Item
-on_path None command = item.Refused BadName
-on_path (Some path) command = item.Command (command path)
+abbrev pub on_path : Option (List (List ℕ)) → (List (List ℕ) → Command) → Line
+on_path None command = bad_name
+on_path (Some path) command = line.Command (command path)
 
 -- a line of one field
 abbrev pub bare_line : List ℕ → Line
 bare_line verb =
-    if bytes_eq verb (codes "space") then Alone (item.Command Space)
-    else if bytes_eq verb (codes "checkpoint") then Alone (item.Command Checkpoint)
-    else if bytes_eq verb (codes "end") then Alone (item.Command End)
+    if bytes_eq verb (codes "space") then line.Command Space
+    else if bytes_eq verb (codes "checkpoint") then line.Command Checkpoint
+    else if bytes_eq verb (codes "end") then line.Command End
     else bad_command
 
 -- the verbs of lines that have a path and nothing else
@@ -56,14 +54,14 @@ command_on verb.Layout path = Layout path
 -- a line of a verb and a path
 abbrev pub path_line : Option PathVerb → List ℕ → Line
 path_line None path = bad_command
-path_line (Some name) path = Alone (on_path (path_in path) (λ p. command_on name p))
+path_line (Some name) path = on_path (path_in path) (λ p. command_on name p)
 
 abbrev pub truncate_line : List ℕ → Option ℕ → Line
 truncate_line path None = bad_command
-truncate_line path (Some size) = Alone (on_path (path_in path) (λ p. Truncate p size))
+truncate_line path (Some size) = on_path (path_in path) (λ p. Truncate p size)
 
 abbrev pub rename_line : Option (List (List ℕ)) → Option (List (List ℕ)) → Line
-rename_line (Some from) (Some to) = Alone (item.Command (Rename from to))
+rename_line (Some from) (Some to) = line.Command (Rename from to)
 rename_line from to = bad_name
 
 -- a line of a verb, a path and one field more
@@ -74,11 +72,11 @@ two_line verb path field =
     else bad_command
 
 abbrev pub read_line : List ℕ → Option ℕ → Option ℕ → Line
-read_line path (Some offset) (Some bytes) = Alone (on_path (path_in path) (λ p. Read p offset bytes))
+read_line path (Some offset) (Some bytes) = on_path (path_in path) (λ p. Read p offset bytes)
 read_line path offset bytes = bad_command
 
 abbrev pub write_line : List ℕ → Option ℕ → Option ℕ → Line
-write_line path (Some offset) (Some bytes) = Write (path_in path) offset bytes
+write_line path (Some offset) (Some bytes) = line.Write (path_in path) offset bytes
 write_line path offset bytes = bad_command
 
 -- a line of a verb, a path and two numbers

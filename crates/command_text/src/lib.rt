@@ -6,6 +6,7 @@ mod fault;
 mod held;
 mod item;
 mod line;
+mod line_end;
 mod number;
 mod path;
 mod reader;

@@ -4,7 +4,6 @@ ghost use Rattle.std.specs.List.{slice_split};
 ghost use Rattle.command_text.specs.Lines.{line_in, line_of_parts, bad_command, bad_name, bare_line, path_verb, path_line, two_line, truncate_line, rename_line, three_line, read_line, write_line};
 ghost use Rattle.command_text.specs.Paths.{path_in};
 
-use crate::Item;
 use crate::cut::cut;
 use crate::number::{length, number};
 use crate::path::path;
@@ -15,8 +14,10 @@ use tree_model::{Command, Path, ReadLength, Refusal};
 /// What a line says.
 #[derive(Drop)]
 pub(crate) enum Line {
-    /// An item by itself.
-    Alone(Item),
+    /// A command by itself.
+    Command(Command),
+    /// It is no command, or names no path.
+    Refused(Refusal),
     /// To write so many bytes, which follow the line. They are dropped where the path is none.
     Write {
         path: Option<Path>,
@@ -90,16 +91,16 @@ fn line_with_count(
 fn bad_command() -> Line
     ensures { result ≡ bad_command }
 {
-    Line::Alone(Item::Refused(Refusal::BadCommand))
+    Line::Refused(Refusal::BadCommand)
 }
 
 fn bare_line(verb: &[u8]) -> Line
     ensures { result ≡ bare_line verb.now }
 {
     match verb {
-        b"space" => Line::Alone(Item::Command(Command::Space)),
-        b"checkpoint" => Line::Alone(Item::Command(Command::Checkpoint)),
-        b"end" => Line::Alone(Item::Command(Command::End)),
+        b"space" => Line::Command(Command::Space),
+        b"checkpoint" => Line::Command(Command::Checkpoint),
+        b"end" => Line::Command(Command::End),
         _ => bad_command(),
     }
 }
@@ -109,7 +110,7 @@ fn path_line(alloc: Global, verb: &[u8], field: &[u8]) -> Result<Line, AllocErro
 {
     match PathVerb::from_field(verb) {
         Some(verb) => match path(alloc, field)? {
-            Some(path) => Ok(Line::Alone(Item::Command(verb.command(path)))),
+            Some(path) => Ok(Line::Command(verb.command(path))),
             None => Ok(bad_name()),
         },
         None => Ok(bad_command()),
@@ -120,7 +121,7 @@ fn path_line(alloc: Global, verb: &[u8], field: &[u8]) -> Result<Line, AllocErro
 fn bad_name() -> Line
     ensures { result ≡ bad_name }
 {
-    Line::Alone(Item::Refused(Refusal::BadName))
+    Line::Refused(Refusal::BadName)
 }
 
 fn two_line(alloc: Global, verb: &[u8], path: &[u8], field: &[u8]) -> Result<Line, AllocError>
@@ -142,7 +143,7 @@ fn truncate_line(alloc: Global, field: &[u8], size: Option<u64>) -> Result<Line,
         return Ok(bad_command());
     };
     match path(alloc, field)? {
-        Some(path) => Ok(Line::Alone(Item::Command(Command::Truncate { path, size }))),
+        Some(path) => Ok(Line::Command(Command::Truncate { path, size })),
         None => Ok(bad_name()),
     }
 }
@@ -154,7 +155,7 @@ fn rename_line(alloc: Global, from: &[u8], to: &[u8]) -> Result<Line, AllocError
         return Ok(bad_name());
     };
     match path(alloc, to)? {
-        Some(to) => Ok(Line::Alone(Item::Command(Command::Rename { from, to }))),
+        Some(to) => Ok(Line::Command(Command::Rename { from, to })),
         None => Ok(bad_name()),
     }
 }
@@ -189,11 +190,11 @@ fn read_line(
         return Ok(bad_command());
     };
     match path(alloc, field)? {
-        Some(path) => Ok(Line::Alone(Item::Command(Command::Read {
+        Some(path) => Ok(Line::Command(Command::Read {
             path,
             offset,
             length: count,
-        }))),
+        })),
         None => Ok(bad_name()),
     }
 }

@@ -1,13 +1,15 @@
 //! A reader of a session's text, which takes the bytes of a source in pieces.
-ghost use Rattle.std.specs.Prelude.{◌≡◌, ◌<◌, ◌≤◌, ◌+◌, [], true, false, Some, None, Ok, Err, length, drop, position, IfOk, IfErr, OnOk, OnErr, IsErrOf, IsTrue, MatchOption};
+ghost use Rattle.std.specs.Prelude.{◌≡◌, ◌<◌, ◌≤◌, ◌+◌, [], true, false, Some, None, Ok, Err, length, drop, position, IfOk, IfErr, IfNone, OnOk, OnErr, IsErrOf, IsTrue, MatchOption};
+ghost use Rattle.command_text.specs.Front.{write_of};
 ghost use Rattle.command_text.specs.declared.fault.TextFault.TheVariants.{Source, BadStream, Budget, OutOfMemory};
 
 use crate::held::Held;
 use crate::line::{Line, line_in};
+use crate::line_end::{LineEnd, line_end};
 use crate::{Item, TextFault};
 use std::alloc::{AllocError, Global};
 use std::marker::Model;
-use tree_model::{Command, Path, Payload, ReadLength};
+use tree_model::{Command, Path, Payload, ReadLength, Refusal, TooLong};
 use vol_numbers::ByteList;
 use wire_ends::Source;
 
@@ -30,10 +32,10 @@ impl Model for CommandReader {
 }
 
 impl CommandReader {
-    ghost use Rattle.std.specs.Prelude.{◌≡◌, ◌<◌, ◌≤◌, ◌+◌, [], true, false, Some, None, Ok, Err, length, drop, position, IfOk, IfErr, OnOk, OnErr, IsErrOf, IsTrue, MatchOption};
+    ghost use Rattle.std.specs.Prelude.{◌≡◌, ◌<◌, ◌≤◌, ◌+◌, [], true, false, Some, None, Ok, Err, length, drop, position, IfOk, IfErr, IfNone, OnOk, OnErr, IsErrOf, IsTrue, MatchOption};
     ghost use Rattle.command_text.specs.Front.{front, is_newline};
     ghost use Rattle.command_text.specs.Reading.{Reading, HasTextCause, Undecided};
-    ghost use Rattle.command_text.specs.Filling.{TakesPiece, Fills, InputEnds, Fails};
+    ghost use Rattle.command_text.specs.Filling.{TakesPiece, Fills, IsShorter, LineEnds, InputEnds, Stopped, Fails, AsksToWrite, Reads};
 
     /// A reader that takes at most so many bytes.
     pub fn new(alloc: Global, budget: u64) -> Result<CommandReader, AllocError>
@@ -66,5 +68,134 @@ impl CommandReader {
         let count = self.held.take_piece(source, most)?;
         self.budget -= count as u64;
         Ok(count > 0)
+    }
+
+    /// Takes pieces until the end of a line is held. It answers where that is, or none where the input ends before the line.
+    fn fill_line<R: Source>(&mut self, source: &mut R) -> Result<Option<usize>, TextFault>
+        ensures fills { Fills Undecided self.old self.new (R.seen source.old) (R.seen source.new) }
+        ensures line { IfOk result (λ end. MatchOption end (self.new.held ≡ []) (λ place. LineEnds self.new.held place)) }
+        ensures ended { IfOk result (λ end. IfNone end (InputEnds self.new (R.seen source.old) (R.seen source.new))) }
+        ensures err { IfErr result (λ fault. Stopped fault self.new (R.seen source.old) (R.seen source.new)) }
+        ensures cause { HasTextCause (R.seen source.old).faults (R.seen source.new).faults result }
+    {
+        'pieces: loop {
+            match line_end(self.held.as_slice()) {
+                LineEnd::At(end) => return Ok(Some(end)),
+                LineEnd::TooLong => return Err(TextFault::BadStream),
+                LineEnd::Missing => {}
+            }
+            self.held.move_up();
+            if !self.take_piece(source, 4_096)? {
+                return self.at_input_end();
+            }
+        }
+    }
+
+    /// Where the input ends: before a line, or inside one.
+    fn at_input_end(&self) -> Result<Option<usize>, TextFault>
+        ensures ok { IfOk result (λ end. (end ≡ None) × (self.now.held ≡ [])) }
+        ensures err { IfErr result (λ fault. (fault ≡ BadStream) × (0 < length self.now.held)) }
+    {
+        if self.held.len() > 0 {
+            return Err(TextFault::BadStream);
+        }
+        Ok(None)
+    }
+
+    /// Takes pieces until so many bytes are held.
+    fn fill_to<R: Source>(&mut self, source: &mut R, count: usize) -> Result<(), TextFault>
+        ensures fills { Fills (IsShorter count) self.old self.new (R.seen source.old) (R.seen source.new) }
+        ensures full { OnOk result (count ≤ length self.new.held) }
+        ensures short { OnErr result (length self.new.held < count) }
+        ensures err { IfErr result (λ fault. Fails fault self.new (R.seen source.old) (R.seen source.new)) }
+        ensures cause { HasTextCause (R.seen source.old).faults (R.seen source.new).faults result }
+    {
+        'pieces: while self.held.len() < count {
+            let missing = count - self.held.len();
+            if !self.take_piece(source, missing)? {
+                return Err(TextFault::BadStream);
+            }
+        }
+        Ok(())
+    }
+
+    /// Reads the data of a write behind its line, which ends at this place, and the newline behind them.
+    fn read_data<R: Source>(
+        &mut self,
+        source: &mut R,
+        end: usize,
+        path: Option<Path>,
+        offset: u64,
+        count: ReadLength,
+    ) -> Result<Item, TextFault>
+        requires { AsksToWrite self.old.held end path offset count }
+        ensures reads { Reads self.old self.new (R.seen source.old) (R.seen source.new) result }
+        ensures cause { HasTextCause (R.seen source.old).faults (R.seen source.new).faults result }
+    {
+        let start = end + 1;
+        let behind = start + count.get() as usize;
+        self.fill_to(source, behind + 1)?;
+        let bytes = self.held.as_slice();
+        if bytes[behind] != b'\n' {
+            return Err(TextFault::BadStream);
+        }
+        match written(self.alloc, path, offset, &bytes[start..behind]) {
+            Ok(item) => {
+                self.held.skip(behind + 1);
+                Ok(item)
+            }
+            Err(AllocError) => Err(TextFault::OutOfMemory),
+        }
+    }
+
+    /// Fills up, and reads an item.
+    fn read_next<R: Source>(&mut self, source: &mut R) -> Result<Item, TextFault>
+        ensures reads { Reads self.old self.new (R.seen source.old) (R.seen source.new) result }
+        ensures cause { HasTextCause (R.seen source.old).faults (R.seen source.new).faults result }
+    {
+        let end = match self.fill_line(source)? {
+            Some(end) => end,
+            None => return Ok(Item::Ended),
+        };
+        match line_in(self.alloc, &self.held.as_slice()[..end]) {
+            Ok(Line::Command(command)) => {
+                self.held.skip(end + 1);
+                Ok(Item::Command(command))
+            }
+            Ok(Line::Refused(refusal)) => {
+                self.held.skip(end + 1);
+                Ok(Item::Refused(refusal))
+            }
+            Ok(Line::Write {
+                path,
+                offset,
+                count,
+            }) => self.read_data(source, end, path, offset, count),
+            Err(AllocError) => Err(TextFault::OutOfMemory),
+        }
+    }
+}
+
+/// A write of these bytes, if its path is one.
+fn written(
+    alloc: Global,
+    path: Option<Path>,
+    offset: u64,
+    bytes: &[u8],
+) -> Result<Item, AllocError>
+    requires { length bytes.now ≤ 65536 }
+    ensures { IfOk result (λ item. item ≡ write_of path offset bytes.now) }
+{
+    let Some(path) = path else {
+        return Ok(Item::Refused(Refusal::BadName));
+    };
+    let bytes = ByteList::from_vec(Vec::from_slice(alloc, bytes)?);
+    match Payload::new(bytes) {
+        Ok(bytes) => Ok(Item::Command(Command::Write {
+            path,
+            offset,
+            bytes,
+        })),
+        Err(TooLong) => unreachable!(),
     }
 }
