@@ -15,7 +15,7 @@ use Rattle.command_text.proofs.FrontLemmas.{front_short, asks_with_more}
 use Rattle.command_text.specs.declared.fault.TextFault.TheVariants.{Source, BadStream, Budget, OutOfMemory}
 use Rattle.wire_ends.specs.Ends.{Input, Takes}
 use Rattle.command_text.specs.Reading.{Reading, Undecided, LastPiece, TakesNeeded}
-use Rattle.command_text.specs.Filling.{HoldsMore, TakesPiece, Fills, InputEnds, EndsInside, Stopped, Fails, AsksToWrite, IsShorter, Stops, Reads, Answers, LineEnds, GivesItem}
+use Rattle.command_text.specs.Filling.{HoldsMore, TakesPiece, Fills, InputEnds, EndsInside, Stopped, Fails, AsksToWrite, IsShorter, Stops, Reads, Answers, LineEnds, GivesItem, IsWrong}
 
 -- where nothing changed, the piece is empty
 pub took_nothing : (old new : Reading) (from to : Input) → HoldsMore old.held new.held from to → new ≡ old → TakesPiece old new from to
@@ -159,7 +159,7 @@ inside_from : (reading : Reading) (from between to : Input) → (IsTrue from.is_
 inside_from reading from between to told inside = record { undecided = inside.undecided; some = inside.some; ends = record { some_budget = inside.ends.some_budget; nothing_left = λ is. inside.ends.nothing_left (told is) } }
 
 stopped_from : (fault : TextFault) (reading : Reading) (from between to : Input) → (IsTrue from.is_told → IsTrue between.is_told) → Stopped fault reading between to → Stopped fault reading from to
-stopped_from BadStream reading from between to told stopped = ⊎_elim (λ (wrong : front reading.held ≡ Wrong). inl wrong) (λ (inside : EndsInside reading between to). inr (inside_from reading from between to told inside)) stopped
+stopped_from BadStream reading from between to told stopped = ⊎_elim (λ (wrong : IsWrong reading.held). inl wrong) (λ (inside : EndsInside reading between to). inr (inside_from reading from between to told inside)) stopped
 stopped_from Budget reading from between to told stopped = stopped
 stopped_from Source reading from between to told stopped = tt
 stopped_from OutOfMemory reading from between to told stopped = tt

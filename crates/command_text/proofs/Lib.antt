@@ -1,3 +1,4 @@
+pub mod DataLemmas
 pub mod FrontLemmas
 pub mod FillLemmas
 pub mod HeldLemmas

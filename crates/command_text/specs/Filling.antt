@@ -11,7 +11,7 @@ use Rattle.command_text.specs.declared.line_end.LineEnd.TheVariants.{At, TooLong
 use Rattle.command_text.specs.Lines.{line_in}
 use Rattle.command_text.specs.Front.{Front, front, is_newline}
 use Rattle.command_text.specs.Front.Front.{Whole, Wrong, Partial}
-use Rattle.command_text.specs.Reading.{Reading, Undecided, TakesNeeded}
+use Rattle.command_text.specs.Reading.{Reading, Undecided, TakesNeeded, settled}
 
 -- a piece was taken behind the bytes that were held
 pub record HoldsMore (old new : List ℕ) (from to : Input) : Type 0 where
@@ -48,10 +48,19 @@ pub record LineEnds (bytes : List ℕ) (end : ℕ) : Type 0 where
   pub found : position is_newline bytes ≡ Some end
   pub at_most : end ≤ 8192
 
+-- the bytes begin no item, however they go on
+abbrev pub IsWrong : List ℕ → Type 0
+IsWrong bytes = (more : List ℕ) → front (bytes ++ more) ≡ Wrong
+
+-- so many of the bytes are an item, however they go on
+pub record IsWhole (bytes : List ℕ) (item : Item) (count : ℕ) : Type 0 where
+  pub within : count ≤ length bytes
+  pub whole : (more : List ℕ) → front (bytes ++ more) ≡ Whole item count
+
 -- what the end of the first line is found to be
 abbrev pub FindsLineEnd : List ℕ → LineEnd → Type 0
 FindsLineEnd bytes (At end) = LineEnds bytes end
-FindsLineEnd bytes TooLong = front bytes ≡ Wrong
+FindsLineEnd bytes TooLong = IsWrong bytes
 FindsLineEnd bytes Missing = Undecided bytes
 
 -- the line that ends at this place asks to write so many bytes
@@ -77,7 +86,7 @@ pub record BudgetEnds (reading : Reading) : Type 0 where
 
 -- why no item was read
 abbrev pub Stopped : TextFault → Reading → Input → Input → Type 0
-Stopped BadStream reading from to = (front reading.held ≡ Wrong) ⊎ EndsInside reading from to
+Stopped BadStream reading from to = IsWrong reading.held ⊎ EndsInside reading from to
 Stopped Budget reading from to = BudgetEnds reading
 Stopped Source reading from to = Unit {0}
 Stopped OutOfMemory reading from to = Unit {0}
@@ -85,7 +94,7 @@ Stopped OutOfMemory reading from to = Unit {0}
 -- so many bytes are an item, and what lies behind them is held
 pub record GivesItem (item : Item) (old new : Reading) : Type 0 where
   pub count : ℕ
-  pub whole : front old.held ≡ Whole item count
+  pub whole : IsWhole old.held item count
   pub behind : new ≡ record old { held = drop count old.held }
 
 -- the input ends before a line
@@ -117,3 +126,9 @@ Fails BadStream reading from to = InputEnds reading from to
 Fails Budget reading from to = reading.budget ≡ 0
 Fails Source reading from to = Unit {0}
 Fails OutOfMemory reading from to = Unit {0}
+
+-- What was read is remembered, where it ends the session or is a fault.
+pub record ReadsSettled (old new : Reading) (from to : Input) (result : Result Item TextFault) : Type 0 where
+  pub before : Reading
+  pub reads : Reads old before from to result
+  pub settled_after : new ≡ settled before result

@@ -1,5 +1,5 @@
 -- What a reader has, and what a call of it does.
-use Rattle.std.specs.Prelude.{◌≡◌, ◌+◌, ◌++◌, ◌≤◌, ◌⊎◌, ℕ, Bool, List, [], length, Option, Result, Ok, Err}
+use Rattle.std.specs.Prelude.{◌≡◌, ◌+◌, ◌++◌, ◌<◌, ◌≤◌, ◌⊎◌, ℕ, Bool, List, [], length, Option, Some, Result, Ok, Err}
 use Rattle.vol_numbers.specs.Cause.{raised}
 use Rattle.wire_ends.specs.Ends.{Input, Takes}
 use Rattle.command_text.specs.declared.item.Item.{Item}
@@ -8,7 +8,7 @@ use Rattle.command_text.specs.declared.fault.TextFault.{TextFault}
 use Rattle.command_text.specs.declared.fault.TextFault.TheVariants.{Source, BadStream, Budget, OutOfMemory}
 use Rattle.command_text.specs.Front.{Front, front}
 use Rattle.command_text.specs.Front.Front.{Partial}
-use Rattle.command_text.specs.Text.{Text, Next}
+use Rattle.command_text.specs.Text.{Text, Next, is_end}
 use Rattle.command_text.specs.Text.Next.{Given, Ended, Bad, Spent}
 
 -- the bytes that were taken and belong to no item yet, how many more may be taken, whether the session is over, and the fault since which nothing is read
@@ -62,3 +62,15 @@ HasTextCause old new (Err Source) = new ≡ raised old
 HasTextCause old new (Err BadStream) = new ≡ old
 HasTextCause old new (Err Budget) = new ≡ old
 HasTextCause old new (Err OutOfMemory) = new ≡ old
+
+-- After an item fewer bytes are held or may be taken.
+abbrev pub Falls : ℕ → ℕ → Result Item TextFault → Type 0
+Falls old new (Ok (item.Command command)) = new < old
+Falls old new (Ok (item.Refused refusal)) = new < old
+Falls old new (Ok item.Ended) = Unit {0}
+Falls old new (Err fault) = Unit {0}
+
+-- the reader of a session that has ended, or after a fault
+abbrev pub settled : Reading → Result Item TextFault → Reading
+settled reading (Ok item) = record reading { is_over = is_end item }
+settled reading (Err fault) = record reading { fault = Some fault }

@@ -1,6 +1,7 @@
 //! A reader of a session's text, which takes the bytes of a source in pieces.
-ghost use Rattle.std.specs.Prelude.{◌≡◌, ◌<◌, ◌≤◌, ◌+◌, [], true, false, Some, None, Ok, Err, length, drop, position, IfOk, IfErr, IfNone, OnOk, OnErr, IsErrOf, IsTrue, MatchOption};
+ghost use Rattle.std.specs.Prelude.{◌≡◌, ◌<◌, ◌≤◌, ◌+◌, [], true, false, Some, None, Ok, Err, length, drop, position, IfOk, IfErr, IfNone, IfSome, OnOk, OnErr, IsErrOf, IsTrue, MatchOption};
 ghost use Rattle.command_text.specs.Front.{write_of};
+ghost use Rattle.command_text.specs.Text.{is_end};
 ghost use Rattle.command_text.specs.declared.fault.TextFault.TheVariants.{Source, BadStream, Budget, OutOfMemory};
 
 use crate::held::Held;
@@ -32,10 +33,12 @@ impl Model for CommandReader {
 }
 
 impl CommandReader {
-    ghost use Rattle.std.specs.Prelude.{◌≡◌, ◌<◌, ◌≤◌, ◌+◌, [], true, false, Some, None, Ok, Err, length, drop, position, IfOk, IfErr, IfNone, OnOk, OnErr, IsErrOf, IsTrue, MatchOption};
+    ghost use Rattle.std.specs.Prelude.{◌≡◌, ◌<◌, ◌≤◌, ◌+◌, [], true, false, Some, None, Ok, Err, length, drop, position, IfOk, IfErr, IfNone, IfSome, OnOk, OnErr, IsErrOf, IsTrue, MatchOption};
     ghost use Rattle.command_text.specs.Front.{front, is_newline};
-    ghost use Rattle.command_text.specs.Reading.{Reading, HasTextCause, Undecided};
-    ghost use Rattle.command_text.specs.Filling.{TakesPiece, Fills, IsShorter, LineEnds, InputEnds, Stopped, Fails, AsksToWrite, Reads};
+    ghost use Rattle.command_text.specs.Text.{next};
+    ghost use Rattle.command_text.specs.declared.item.Item.TheVariants.{Ended};
+    ghost use Rattle.command_text.specs.Reading.{Reading, HasTextCause, Undecided, unread, ReadsNext, TakesForNext, Falls, settled};
+    ghost use Rattle.command_text.specs.Filling.{TakesPiece, Fills, IsShorter, LineEnds, InputEnds, Stopped, Fails, AsksToWrite, Reads, ReadsSettled};
 
     /// A reader that takes at most so many bytes.
     pub fn new(alloc: Global, budget: u64) -> Result<CommandReader, AllocError>
@@ -48,6 +51,56 @@ impl CommandReader {
             is_over: false,
             fault: None,
         })
+    }
+
+    /// The next item. After `Ended`, and after the command `end`, the session is over: every later call answers `Ended` and takes nothing.
+    /// After a fault every later call answers the same fault and takes nothing.
+    ///
+    /// # Errors
+    ///
+    /// - `Source`: a call of the source failed, in this call of the reader or in an earlier one.
+    /// - `BadStream`: the input ends inside a line or its data, a line is longer than 8,192 bytes, or the byte behind data is no newline.
+    /// - `Budget`: as many bytes as the budget allows were taken, and they aren't an item.
+    /// - `OutOfMemory`: memory was wanting.
+    pub fn read_command<R: Source>(&mut self, source: &mut R) -> Result<Item, TextFault>
+        ensures reads { self.old.fault ≡ None → IsTrue (R.seen source.old).is_told →
+            ReadsNext (next (unread self.old (R.seen source.old))) (unread self.new (R.seen source.new)) result }
+        ensures takes { TakesForNext self.old self.new (R.seen source.old) (R.seen source.new) }
+        ensures falls { Falls (length self.old.held + self.old.budget) (length self.new.held + self.new.budget) result }
+        ensures ended { result ≡ Ok Ended → self.new.is_over ≡ true }
+        ensures over { self.old.fault ≡ None → self.old.is_over ≡ true → (result ≡ Ok Ended) × (self.new ≡ self.old) × (R.seen source.new ≡ R.seen source.old) }
+        ensures failed { IfErr result (λ fault. self.new.fault ≡ Some fault) }
+        ensures goes_on { OnOk result (self.new.fault ≡ None) }
+        ensures again { IfSome self.old.fault (λ fault. (result ≡ Err fault) × (self.new ≡ self.old) × (R.seen source.new ≡ R.seen source.old)) }
+        ensures cause { self.old.fault ≡ None → HasTextCause (R.seen source.old).faults (R.seen source.new).faults result }
+        ensures budget { self.old.fault ≡ None → result ≡ Err Budget → self.new.budget ≡ 0 }
+    {
+        if let Some(fault) = self.fault {
+            return Err(fault);
+        }
+        if self.is_over {
+            return Ok(Item::Ended);
+        }
+        self.read_on(source)
+    }
+
+    /// The next item of a session that goes on.
+    fn read_on<R: Source>(&mut self, source: &mut R) -> Result<Item, TextFault>
+        requires no_fault { self.old.fault ≡ None }
+        requires not_over { self.old.is_over ≡ false }
+        ensures reads { ReadsSettled self.old self.new (R.seen source.old) (R.seen source.new) result }
+        ensures cause { HasTextCause (R.seen source.old).faults (R.seen source.new).faults result }
+    {
+        match self.read_next(source) {
+            Ok(item) => {
+                self.is_over = is_end(&item);
+                Ok(item)
+            }
+            Err(fault) => {
+                self.fault = Some(fault);
+                Err(fault)
+            }
+        }
     }
 
     /// Takes a piece of at most so many bytes. It answers whether there was one.
@@ -134,7 +187,9 @@ impl CommandReader {
     {
         let start = end + 1;
         let behind = start + count.get() as usize;
-        self.fill_to(source, behind + 1)?;
+        if let Err(fault) = self.fill_to(source, behind + 1) {
+            return Err(fault);
+        }
         let bytes = self.held.as_slice();
         if bytes[behind] != b'\n' {
             return Err(TextFault::BadStream);
@@ -198,4 +253,11 @@ fn written(
         })),
         Err(TooLong) => unreachable!(),
     }
+}
+
+/// Whether a session ends with this item.
+fn is_end(item: &Item) -> bool
+    ensures { result ≡ is_end item.now }
+{
+    matches!(item, Item::Command(Command::End) | Item::Ended)
 }
