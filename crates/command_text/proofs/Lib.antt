@@ -1,3 +1,4 @@
+pub mod ReadLemmas
 pub mod DataLemmas
 pub mod FrontLemmas
 pub mod FillLemmas

@@ -94,6 +94,7 @@ Stopped OutOfMemory reading from to = Unit {0}
 -- so many bytes are an item, and what lies behind them is held
 pub record GivesItem (item : Item) (old new : Reading) : Type 0 where
   pub count : ℕ
+  pub some : 0 < count
   pub whole : IsWhole old.held item count
   pub behind : new ≡ record old { held = drop count old.held }
 
