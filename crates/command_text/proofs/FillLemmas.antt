@@ -120,15 +120,15 @@ fills_both Holds old mid new from between to one two = record {
   held = two.held ∙ ap (λ (l : List ℕ). l ++ two.taken) one.held ∙ append_assoc old.held one.taken two.taken;
   counted = omega (arith, one.counted, two.counted, length-append one.taken two.taken);
   needed = ⊎_elim
-    (λ (none : two.taken ≡ []). subst (TakesNeeded Holds old.held) (sym (ap (λ (l : List ℕ). one.taken ++ l) none ∙ append-nil one.taken)) one.needed)
-    (λ (last : LastPiece Holds mid.held two.taken). inr (record {
-      before = one.taken ++ last.before;
-      piece = last.piece;
-      parts = ap (λ (l : List ℕ). one.taken ++ l) last.parts ∙ sym (append_assoc one.taken last.before last.piece);
-      at_most = last.at_most;
-      needed = subst Holds (ap (λ (l : List ℕ). l ++ last.before) one.held ∙ append_assoc old.held one.taken last.before) last.needed;
-    }))
-    two.needed;
+      (λ (none : two.taken ≡ []). subst (TakesNeeded Holds old.held) (sym (ap (λ (l : List ℕ). one.taken ++ l) none ∙ append-nil one.taken)) one.needed)
+      (λ (last : LastPiece Holds mid.held two.taken). inr (record {
+        before = one.taken ++ last.before;
+        piece = last.piece;
+        parts = ap (λ (l : List ℕ). one.taken ++ l) last.parts ∙ sym (append_assoc one.taken last.before last.piece);
+        at_most = last.at_most;
+        needed = subst Holds (ap (λ (l : List ℕ). l ++ last.before) one.held ∙ append_assoc old.held one.taken last.before) last.needed;
+      }))
+      two.needed;
   over = two.over ∙ one.over;
   fault = two.fault ∙ one.fault;
 }

@@ -50,12 +50,12 @@ front_of_write bytes i path offset count asks = front_of_ended bytes i asks.ends
 module _ (bytes : List ℕ) (i : ℕ) (path : Option (List (List ℕ))) (offset count : ℕ) (asks : AsksToWrite bytes i path offset count) where
   pub front_short : length bytes < i + 1 + count + 1 → front bytes ≡ Partial
   front_short short =
-    let within = place_of_found is_newline bytes i asks.ends.found in
-    front_of_write bytes i path offset count asks ∙ cond-true (nat_le (length (drop (i + 1) bytes)) count) Partial (cond (is_newline (slice_index (drop (i + 1) bytes) count)) (Whole (write_of path offset (take count (drop (i + 1) bytes))) (i + 1 + count + 1)) Wrong) (le_true (length (drop (i + 1) bytes)) count (omega (arith, length-drop (i + 1) bytes)))
+      let within = place_of_found is_newline bytes i asks.ends.found in
+      front_of_write bytes i path offset count asks ∙ cond-true (nat_le (length (drop (i + 1) bytes)) count) Partial (cond (is_newline (slice_index (drop (i + 1) bytes) count)) (Whole (write_of path offset (take count (drop (i + 1) bytes))) (i + 1 + count + 1)) Wrong) (le_true (length (drop (i + 1) bytes)) count (omega (arith, length-drop (i + 1) bytes)))
 
   front_long : i + 1 + count + 1 ≤ length bytes → front bytes ≡ cond (is_newline (slice_index (drop (i + 1) bytes) count)) (Whole (write_of path offset (take count (drop (i + 1) bytes))) (i + 1 + count + 1)) Wrong
   front_long long =
-    front_of_write bytes i path offset count asks ∙ cond-false (nat_le (length (drop (i + 1) bytes)) count) Partial (cond (is_newline (slice_index (drop (i + 1) bytes) count)) (Whole (write_of path offset (take count (drop (i + 1) bytes))) (i + 1 + count + 1)) Wrong) (le_false (length (drop (i + 1) bytes)) count (omega (arith, length-drop (i + 1) bytes)))
+      front_of_write bytes i path offset count asks ∙ cond-false (nat_le (length (drop (i + 1) bytes)) count) Partial (cond (is_newline (slice_index (drop (i + 1) bytes) count)) (Whole (write_of path offset (take count (drop (i + 1) bytes))) (i + 1 + count + 1)) Wrong) (le_false (length (drop (i + 1) bytes)) count (omega (arith, length-drop (i + 1) bytes)))
 
   pub front_unended : i + 1 + count + 1 ≤ length bytes → is_newline (slice_index (drop (i + 1) bytes) count) ≡ false → front bytes ≡ Wrong
   front_unended long other = front_long long ∙ cond-false (is_newline (slice_index (drop (i + 1) bytes) count)) (Whole (write_of path offset (take count (drop (i + 1) bytes))) (i + 1 + count + 1)) Wrong other
@@ -115,8 +115,8 @@ module _ (bytes : List ℕ) (i : ℕ) (path : Option (List (List ℕ))) (offset 
   whole_written ended = record {
     within = long;
     whole = λ more.
-      let within : count ≤ length (drop (i + 1) bytes) = omega (arith, length-drop (i + 1) bytes) in
-      let same : take count (drop (i + 1) (bytes ++ more)) ≡ take count (drop (i + 1) bytes) = ap (take count) (drop-append-le (i + 1) bytes more (omega arith)) ∙ take-append-le count (drop (i + 1) bytes) more within in
-      front_written (bytes ++ more) i path offset count (asks_with_more bytes more i path offset count asks) (omega (arith, length-append bytes more)) (byte_with_more more ∙ ended)
-      ∙ ap (λ (data_bytes : List ℕ). Whole (write_of path offset data_bytes) (i + 1 + count + 1)) same;
+        let within : count ≤ length (drop (i + 1) bytes) = omega (arith, length-drop (i + 1) bytes) in
+        let same : take count (drop (i + 1) (bytes ++ more)) ≡ take count (drop (i + 1) bytes) = ap (take count) (drop-append-le (i + 1) bytes more (omega arith)) ∙ take-append-le count (drop (i + 1) bytes) more within in
+        front_written (bytes ++ more) i path offset count (asks_with_more bytes more i path offset count asks) (omega (arith, length-append bytes more)) (byte_with_more more ∙ ended)
+        ∙ ap (λ (data_bytes : List ℕ). Whole (write_of path offset data_bytes) (i + 1 + count + 1)) same;
   }

@@ -102,6 +102,7 @@ pub empty_field_cut : (verb path field rest : List ℕ) (behind : Option (Bor (L
 empty_field_cut verb path [] rest None parts empty = ap (λ (l : List (List ℕ)). line_of_parts (verb ∷ path ∷ l)) parts ∙ no_field verb path []
 empty_field_cut verb path [] rest (Some r) parts empty = ap (λ (l : List (List ℕ)). line_of_parts (verb ∷ path ∷ l)) parts ∙ no_field verb path (spaced r.now)
 empty_field_cut verb path (b ∷ field) rest behind parts empty = absurd (omega arith)
+
 pub line_of_split : (line : List ℕ) (parts : List (List ℕ)) → slice_split (λ b. b == 32) line ≡ parts → line_in line ≡ line_of_parts parts
 unfolding line_in
 line_of_split line parts e = ap line_of_parts e

@@ -55,8 +55,8 @@ pub found_behind : (p : ℕ → Bool) (xs ys : List ℕ) (i : ℕ) → position 
 found_behind p xs ys i none found =
     ⊎_elim
     (λ (lt : i < length xs).
-      let passes : p (get_or xs i 0) ≡ true = ap p (sym (get_or-append xs ys 0 i lt)) ∙ passes_at p (xs ++ ys) i found in
-      let fails = fails_everywhere p xs none i lt in
-      absurd (false≢true (sym fails ∙ passes)))
+    let passes : p (get_or xs i 0) ≡ true = ap p (sym (get_or-append xs ys 0 i lt)) ∙ passes_at p (xs ++ ys) i found in
+    let fails = fails_everywhere p xs none i lt in
+    absurd (false≢true (sym fails ∙ passes)))
     (λ le. le)
     (cases_lt i (length xs))

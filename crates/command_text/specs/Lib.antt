@@ -3,5 +3,7 @@ pub mod Front
 pub mod Lines
 pub mod Numbers
 pub mod Paths
+pub mod Putting
 pub mod Reading
+pub mod Replies
 pub mod Text

@@ -10,6 +10,8 @@ mod line_end;
 mod number;
 mod path;
 mod reader;
+mod reply;
+mod text_line;
 mod verb;
 
 pub use fault::{PutFault, TextFault};

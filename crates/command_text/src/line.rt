@@ -50,12 +50,7 @@ fn line_with_path(alloc: Global, verb: &[u8], rest: &[u8]) -> Result<Line, Alloc
     }
 }
 
-fn line_with_field(
-    alloc: Global,
-    verb: &[u8],
-    path: &[u8],
-    rest: &[u8],
-) -> Result<Line, AllocError>
+fn line_with_field(alloc: Global, verb: &[u8], path: &[u8], rest: &[u8]) -> Result<Line, AllocError>
     requires { 0 < length path.now }
     ensures { IfOk result (λ said. said ≡ line_of_parts (verb.now ∷ path.now ∷ slice_split (λ b. b == 32) rest.now)) }
 {

@@ -221,23 +221,20 @@ impl CommandReader {
                 self.held.skip(end + 1);
                 Ok(Item::Refused(refusal))
             }
-            Ok(Line::Write {
-                path,
-                offset,
-                count,
-            }) => self.read_data(source, end, path, offset, count),
+            Ok(
+                Line::Write {
+                    path,
+                    offset,
+                    count,
+                },
+            ) => self.read_data(source, end, path, offset, count),
             Err(AllocError) => Err(TextFault::OutOfMemory),
         }
     }
 }
 
 /// A write of these bytes, if its path is one.
-fn written(
-    alloc: Global,
-    path: Option<Path>,
-    offset: u64,
-    bytes: &[u8],
-) -> Result<Item, AllocError>
+fn written(alloc: Global, path: Option<Path>, offset: u64, bytes: &[u8]) -> Result<Item, AllocError>
     requires { length bytes.now ≤ 65536 }
     ensures { IfOk result (λ item. item ≡ write_of path offset bytes.now) }
 {

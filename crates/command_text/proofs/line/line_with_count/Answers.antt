@@ -12,7 +12,7 @@ returns-in-Some c =
     let front = c.args.verb.now ∷ c.args.path.now ∷ c.args.offset.now ∷ c.cut.result.0.now ∷ [] in
     c.bad_command.ensures
     ∙ sym (ap (λ (l : List (List ℕ)). line_of_parts (c.args.verb.now ∷ c.args.path.now ∷ c.args.offset.now ∷ l)) (parts ∙ ap (λ (l : List (List ℕ)). c.cut.result.0.now ∷ l) some.2)
-      ∙ too_many c.args.verb.now c.args.path.now c.args.offset.now c.cut.result.0.now some.0 some.1)
+    ∙ too_many c.args.verb.now c.args.path.now c.args.offset.now c.cut.result.0.now some.0 some.1)
 
 pub returns-in-None : goal.returns-in-None
 returns-in-None c =

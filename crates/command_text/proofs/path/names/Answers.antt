@@ -11,10 +11,10 @@ returns-in_default-2 c =
     let step = names_step c.in-Some.field.now c.cut.result.0.now c.cut.result.1 c.cut.ensures.parts in
     let whole = c.loop-rest.invariant.whole ∙ ap (λ (l : List (List ℕ)). c.loop-rest.names.items ++ l) (ap names_left c.in-Some.is ∙ step) in
     elim c.in_default-2.branch [
-      in_default-2-via-in-Some-2+else-len-lt32 w ↦
-        sym (ap few_names whole ∙ few_pass c.loop-rest.names.items (percent_decode c.cut.result.0.now) (names_left c.cut.result.1) (omega arith))
-    | in_default-2-via-in_default-2 w ↦
-        sym (ap few_names whole ∙ few_fails c.loop-rest.names.items (percent_decode c.cut.result.0.now) (names_left c.cut.result.1) (name_not_made (percent_decode c.cut.result.0.now) (sym w.in_default-2.is ∙ c.in_ok-name.ensures)))
+      | in_default-2-via-in-Some-2+else-len-lt32 w ↦
+          sym (ap few_names whole ∙ few_pass c.loop-rest.names.items (percent_decode c.cut.result.0.now) (names_left c.cut.result.1) (omega arith))
+      | in_default-2-via-in_default-2 w ↦
+          sym (ap few_names whole ∙ few_fails c.loop-rest.names.items (percent_decode c.cut.result.0.now) (names_left c.cut.result.1) (name_not_made (percent_decode c.cut.result.0.now) (sym w.in_default-2.is ∙ c.in_ok-name.ensures)))
     ]
 
 pub loop-rest-preserved : goal.loop-rest-preserved
