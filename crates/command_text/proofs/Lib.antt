@@ -1,3 +1,5 @@
+pub mod ListPuts
+pub mod EscapeLemmas
 pub mod ReadLemmas
 pub mod DataLemmas
 pub mod FrontLemmas

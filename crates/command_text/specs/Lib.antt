@@ -6,4 +6,5 @@ pub mod Paths
 pub mod Putting
 pub mod Reading
 pub mod Replies
+pub mod Spelling
 pub mod Text

@@ -1,5 +1,5 @@
 -- The text of answers.
-use Rattle.std.specs.Prelude.{ℕ, ◌==◌, ◌||◌, nat_lt, if◌then◌else◌, Bool, List, [], ◌∷◌, ◌++◌, length, codes, decimal, Option, Some, None}
+use Rattle.std.specs.Prelude.{◌≡◌, ℕ, ◌==◌, ◌||◌, nat_lt, if◌then◌else◌, Bool, List, [], ◌∷◌, ◌++◌, length, codes, decimal, Option, Some, None}
 use Rattle.std.specs.List.{flat_map}
 use Rattle.percent_encoding.specs.Percent.{percent_encode_byte}
 use Rattle.tree_model.specs.declared.refusal.Refusal.{Refusal}
@@ -64,7 +64,7 @@ counted_text word count = word ++ decimal count ++ codes "\n"
 
 abbrev pub reply_text : Reply → List ℕ
 reply_text Done = codes "ok\n"
-reply_text (Data bytes) = counted_text (codes "data ") (length bytes) ++ bytes ++ codes "\n"
+reply_text (Data bytes) = counted_text (codes "data ") (length bytes) ++ (bytes ++ codes "\n")
 reply_text (Entries entries) = counted_text (codes "list ") (length entries) ++ flat_map entry_text entries
 reply_text (Stat kind number size) = codes "stat " ++ kind_text kind ++ codes " " ++ decimal number ++ codes " " ++ decimal size ++ codes "\n"
 reply_text (Layout pieces) = counted_text (codes "layout ") (length pieces) ++ flat_map piece_text pieces
@@ -88,3 +88,13 @@ report_text (Some report) = point_text report ++ flat_map line_text report.lines
 -- an answer is its report, if it has one, and its reply
 abbrev pub answer_text : Answer → List ℕ
 answer_text answer = report_text answer.report ++ reply_text answer.reply
+
+-- the reply is a list
+abbrev pub HasEntries : Reply → Type 0
+HasEntries (Entries entries) = Unit {0}
+HasEntries reply = ⊥
+
+-- Where the reply is a list, the text is that of the list.
+abbrev pub IsListText : Reply → List ℕ → Type 0
+IsListText (Entries entries) text = text ≡ reply_text (Entries entries)
+IsListText reply text = Unit {0}

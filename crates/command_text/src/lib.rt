@@ -2,6 +2,8 @@
 #![tactic(auto)]
 
 mod cut;
+mod entries;
+mod escape;
 mod fault;
 mod held;
 mod item;
@@ -9,7 +11,9 @@ mod line;
 mod line_end;
 mod number;
 mod path;
+mod print;
 mod reader;
+mod replies;
 mod reply;
 mod text_line;
 mod verb;
@@ -17,3 +21,4 @@ mod verb;
 pub use fault::{PutFault, TextFault};
 pub use item::Item;
 pub use reader::CommandReader;
+pub use replies::write_reply;
