@@ -15,10 +15,13 @@ mod print;
 mod reader;
 mod replies;
 mod reply;
+#[cfg(test)]
+mod tests;
 mod text_line;
 mod verb;
 
 pub use fault::{PutFault, TextFault};
 pub use item::Item;
+pub use print::print_command;
 pub use reader::CommandReader;
 pub use replies::write_reply;

@@ -72,7 +72,7 @@ fn put_data<W: Sink>(sink: &mut W, bytes: &[u8]) -> Result<(), SinkFault>
 }
 
 /// Puts bytes and a newline.
-fn put_ended<W: Sink>(sink: &mut W, bytes: &[u8]) -> Result<(), SinkFault>
+pub(crate) fn put_ended<W: Sink>(sink: &mut W, bytes: &[u8]) -> Result<(), SinkFault>
     ensures text { PutsText (W.seen sink.old) (W.seen sink.new) (bytes.now ++ codes "\n") result }
     ensures cause { HasCause (W.seen sink.old).faults (W.seen sink.new).faults result }
 {
