@@ -49,17 +49,15 @@ fn session(alloc: Global, text: &[u8], piece: usize, budget: u64) -> Result<Vec<
     let mut source = MemSource::new(bytes, piece.max(1), CallList::new(alloc));
     let mut sink = MemSink::new(alloc, 70_000, CallList::new(alloc))?;
     let mut reader = CommandReader::new(alloc, budget)?;
-    let mut stops = 0;
+    let mut stopped = false;
     for _ in 0..20 {
         let read = reader.read_command(&mut source);
         let stop = stop_of(&read);
         sink.put(stop)?;
-        if !stop.is_empty() {
-            stops += 1;
-        }
-        if stops == 2 {
+        if stopped {
             break;
         }
+        stopped = !stop.is_empty();
         if let Ok(item) = read {
             show(alloc, &mut sink, item)?;
         }
