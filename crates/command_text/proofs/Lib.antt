@@ -1,0 +1,12 @@
+pub mod ListPuts
+pub mod EscapeLemmas
+pub mod ReadLemmas
+pub mod DataLemmas
+pub mod FrontLemmas
+pub mod FillLemmas
+pub mod HeldLemmas
+pub mod LineLemmas
+pub mod NameLemmas
+pub mod NumberLemmas
+pub mod PlaceLemmas
+pub mod PathLemmas

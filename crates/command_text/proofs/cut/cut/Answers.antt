@@ -1,0 +1,13 @@
+use Rattle.std.proofs.Common.{◌≡◌, ◌∙◌, ◌==◌, ◌+◌, ◌-◌, ℕ, List, ◌∷◌, length, take, drop, sym, ap, arith}
+use Rattle.std.proofs.lemmas.Grind.{common_steps}
+use Rattle.std.specs.List.{slice_split}
+use Rattle.command_text.proofs.PlaceLemmas.{split_found, split_none}
+use Rattle.command_text.proofs.cut.cut.Goals as goal
+
+pub returns-in-Some-clause-parts : goal.returns-in-Some-clause-parts
+returns-in-Some-clause-parts c =
+    let found = split_found (λ b. b == c.args.separator) c.args.text.now c.in-Some.place (sym c.in-Some.ensures.place) in
+    grind (arith, common_steps, found)
+
+pub returns-in-None-clause-parts : goal.returns-in-None-clause-parts
+returns-in-None-clause-parts c = split_none (λ b. b == c.args.separator) c.args.text.now (sym c.in-None.ensures.place)

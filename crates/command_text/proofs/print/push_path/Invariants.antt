@@ -1,0 +1,8 @@
+use Rattle.std.proofs.Common.{◌≡◌, ◌++◌, take}
+use Rattle.std.specs.List.{flat_map}
+use Rattle.std.specs.String.{string_bytes}
+use Rattle.command_text.specs.Spelling.{name_spelling}
+use Rattle.command_text.proofs.print.push_path.Given as goal
+
+abbrev pub invariant-loop-name : goal.invariant-loop-name
+invariant-loop-name l = string_bytes l.text ≡ string_bytes l.initial.text ++ flat_map name_spelling (take l.name-index l.names)

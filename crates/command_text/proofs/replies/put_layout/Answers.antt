@@ -1,0 +1,14 @@
+use Rattle.std.proofs.Common.{◌++◌, List, length}
+use Rattle.std.specs.Prelude.{codes}
+use Rattle.std.specs.List.{flat_map}
+use Rattle.wire_ends.proofs.PutLemmas.{part_of_more}
+use Rattle.command_text.specs.Replies.{counted_text, piece_text, report_text, reply_text}
+use Rattle.command_text.proofs.ListPuts.{puts_text_both}
+use Rattle.command_text.proofs.replies.put_layout.Goals as goal
+
+pub returns-in-Ok-clause-text : goal.returns-in-Ok-clause-text
+returns-in-Ok-clause-text g c =
+    puts_text_both (g.W.Sink.seen c.args.sink.now) (g.W.Sink.seen c.put_count.new.sink) (g.W.Sink.seen c.put_pieces.new.sink) (counted_text (codes "layout ") (length c.args.pieces.now)) (flat_map piece_text c.args.pieces.now) c.put_pieces.result c.in-Ok.ensures.text c.put_pieces.ensures.text
+
+pub returns-in-Err-clause-text : goal.returns-in-Err-clause-text
+returns-in-Err-clause-text g c = part_of_more (flat_map piece_text c.args.pieces.now) c.in-Err.ensures.text

@@ -1,0 +1,9 @@
+use Rattle.std.proofs.Common.{◌≡◌, take}
+use Rattle.std.specs.List.{flat_map}
+use Rattle.wire_ends.specs.Ends.{Puts}
+use Rattle.command_text.specs.Replies.{piece_text}
+use Rattle.command_text.proofs.ListPuts.{PutSoFar}
+use Rattle.command_text.proofs.replies.put_pieces.Given as goal
+
+abbrev pub invariant-loop-piece : goal.invariant-loop-piece
+invariant-loop-piece g l = PutSoFar (g.W.Sink.seen l.initial.sink) (g.W.Sink.seen l.sink) (flat_map piece_text (take l.piece-index l.pieces))

@@ -1,0 +1,20 @@
+use Rattle.std.proofs.Common.{◌≡◌, ◌<◌, ◌≤◌, ℕ, List, length, get_or, ap, sym, arith, rules}
+use Rattle.std.specs.Prelude.{codes}
+use Rattle.std.proofs.lemmas.Slice.Eq.{text_from_reads}
+use Rattle.command_text.specs.Lines.{path_verb}
+use Rattle.command_text.proofs.verb.PathVerb.from_field.Goals as goal
+
+pub returns-in-create : goal.returns-in-create
+returns-in-create c =
+    let e : c.args.field.now ≡ codes "create" = text_from_reads c.args.field.now (codes "create") (omega arith) (search rules) in
+    sym (ap path_verb e)
+
+pub returns-in-remove : goal.returns-in-remove
+returns-in-remove c =
+    let e : c.args.field.now ≡ codes "remove" = text_from_reads c.args.field.now (codes "remove") (omega arith) (search rules) in
+    sym (ap path_verb e)
+
+pub returns-in-layout : goal.returns-in-layout
+returns-in-layout c =
+    let e : c.args.field.now ≡ codes "layout" = text_from_reads c.args.field.now (codes "layout") (omega arith) (search rules) in
+    sym (ap path_verb e)

@@ -1,0 +1,10 @@
+pub mod Filling
+pub mod Front
+pub mod Lines
+pub mod Numbers
+pub mod Paths
+pub mod Putting
+pub mod Reading
+pub mod Replies
+pub mod Spelling
+pub mod Text

@@ -1,0 +1,142 @@
+//! The one spelling of a command.
+ghost use Rattle.std.specs.Prelude.{◌≡◌, ◌++◌, codes, IfOk, OnOk};
+ghost use Rattle.std.specs.String.{string_bytes};
+ghost use Rattle.command_text.specs.Putting.{PutsText, PutsAnswer, HasPutCause};
+ghost use Rattle.command_text.specs.Spelling.{path_spelling, spelling, number_spelling, line_spelling, data_spelling};
+ghost use Rattle.vol_numbers.specs.Cause.{HasCause};
+
+use crate::PutFault;
+use crate::escape::push_escaped;
+use crate::replies::put_ended;
+use itoa::Buffer;
+use std::alloc::{AllocError, Global};
+use tree_model::{Command, Path};
+use wire_ends::{Sink, SinkFault};
+
+fn push_path(text: &mut String, path: &Path) -> Result<(), AllocError>
+    ensures { OnOk result (string_bytes text.new ≡ string_bytes text.old ++ path_spelling path.now) }
+{
+    let names = path.names();
+    if names.is_empty() {
+        return text.push_str("/");
+    }
+    for name in names {
+        text.push_str("/")?;
+        push_escaped(text, name.as_bytes())?;
+    }
+    Ok(())
+}
+
+fn push_number(text: &mut String, number: u64) -> Result<(), AllocError>
+    ensures { OnOk result (string_bytes text.new ≡ string_bytes text.old ++ number_spelling number) }
+{
+    let mut digits = Buffer::new();
+    text.push_str(" ")?;
+    text.push_str(digits.format(number))
+}
+
+fn push_on_path(text: &mut String, verb: &str, path: &Path) -> Result<(), AllocError>
+    ensures { OnOk result (string_bytes text.new ≡ string_bytes text.old ++ verb.now ++ path_spelling path.now) }
+{
+    text.push_str(verb)?;
+    push_path(text, path)
+}
+
+/// Appends the line of a command without its newline.
+fn push_line(text: &mut String, command: &Command) -> Result<(), AllocError>
+    ensures { OnOk result (string_bytes text.new ≡ string_bytes text.old ++ line_spelling command.now) }
+{
+    match command {
+        Command::Mkdir { path } => push_on_path(text, "mkdir ", path),
+        Command::Create { path } => push_on_path(text, "create ", path),
+        Command::Write {
+            path,
+            offset,
+            bytes,
+        } => {
+            push_on_path(text, "write ", path)?;
+            push_number(text, *offset)?;
+            push_number(text, bytes.as_slice().len() as u64)
+        }
+        Command::Truncate { path, size } => {
+            push_on_path(text, "truncate ", path)?;
+            push_number(text, *size)
+        }
+        Command::Remove { path } => push_on_path(text, "remove ", path),
+        Command::Rename { from, to } => {
+            push_on_path(text, "rename ", from)?;
+            push_on_path(text, " ", to)
+        }
+        Command::Read {
+            path,
+            offset,
+            length,
+        } => {
+            push_on_path(text, "read ", path)?;
+            push_number(text, *offset)?;
+            push_number(text, length.get() as u64)
+        }
+        Command::List { path } => push_on_path(text, "list ", path),
+        Command::Stat { path } => push_on_path(text, "stat ", path),
+        Command::Layout { path } => push_on_path(text, "layout ", path),
+        Command::Space => text.push_str("space"),
+        Command::Checkpoint => text.push_str("checkpoint"),
+        Command::End => text.push_str("end"),
+    }
+}
+
+/// The line of a command with its newline.
+fn line_of(alloc: Global, command: &Command) -> Result<String, AllocError>
+    ensures { IfOk result (λ line. string_bytes line ≡ line_spelling command.now ++ codes "\n") }
+{
+    let mut line = String::new(alloc);
+    push_line(&mut line, command)?;
+    line.push_str("\n")?;
+    Ok(line)
+}
+
+/// Puts a line, and behind it bytes and a newline.
+fn put_written<W: Sink>(sink: &mut W, line: &str, bytes: &[u8]) -> Result<(), SinkFault>
+    ensures text { PutsText (W.seen sink.old) (W.seen sink.new) (line.now ++ (bytes.now ++ codes "\n")) result }
+    ensures cause { HasCause (W.seen sink.old).faults (W.seen sink.new).faults result }
+{
+    match sink.put(line.as_bytes()) {
+        Ok(()) => put_ended(sink, bytes),
+        Err(SinkFault) => Err(SinkFault),
+    }
+}
+
+/// Puts the line of a command, which is given, and what follows it.
+fn put_spelling<W: Sink>(sink: &mut W, line: &str, command: &Command) -> Result<(), SinkFault>
+    requires { line.now ≡ line_spelling command.now ++ codes "\n" }
+    ensures text { PutsText (W.seen sink.old) (W.seen sink.new) (spelling command.now) result }
+    ensures cause { HasCause (W.seen sink.old).faults (W.seen sink.new).faults result }
+{
+    match command {
+        Command::Write { bytes, .. } => put_written(sink, line, bytes.as_slice()),
+        _ => sink.put(line.as_bytes()),
+    }
+}
+
+/// Appends the one spelling of a command to the sink: names are escaped as in replies.
+///
+/// # Errors
+///
+/// - `Sink`: a call of the sink failed. A prefix of the spelling was appended.
+/// - `OutOfMemory`: memory was wanting. Nothing was appended.
+pub fn print_command<W: Sink>(
+    alloc: Global,
+    sink: &mut W,
+    command: &Command,
+) -> Result<(), PutFault>
+    ensures text { PutsAnswer (W.seen sink.old) (W.seen sink.new) (spelling command.now) result }
+    ensures cause { HasPutCause (W.seen sink.old).faults (W.seen sink.new).faults result }
+{
+    let Ok(line) = line_of(alloc, command) else {
+        return Err(PutFault::OutOfMemory);
+    };
+    match put_spelling(sink, line.as_str(), command) {
+        Ok(()) => Ok(()),
+        Err(SinkFault) => Err(PutFault::Sink),
+    }
+}
