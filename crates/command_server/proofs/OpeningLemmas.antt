@@ -9,13 +9,16 @@ use Rattle.disk_model.proofs.Moments.{adds_then, adds_weaker, image_unsynced}
 use Rattle.root_switch.specs.Current.{root_of_image}
 use Rattle.root_switch.specs.Root.{Root}
 use Rattle.wire_ends.specs.Ends.{Output}
-use Rattle.command_server.specs.Fits.{Fits}
-use Rattle.command_server.specs.Image.{Stands}
-use Rattle.command_server.specs.Lines.{Text}
-use Rattle.command_server.specs.Serves.{Ends, ends_of, image_at, HasNoMore, Unchanged, IsFound, IsUnmounted, Untaken, UntakenHere, Answered, Served, TellsFinding}
+use Rattle.wire_ends.specs.Ends.{Input}
+use Rattle.log_volume.specs.Fits.{Volume, Fits, kept_by}
+use Rattle.log_volume.specs.Image.{Stands}
+use Rattle.log_volume.specs.Replay.{Kept}
+use Rattle.command_text.specs.Text.{Text}
+use Rattle.command_server.specs.Serving.{text_of_source, no_text, session_budget}
+use Rattle.command_server.specs.Serves.{Ends, image_at, HasNoMore, Unchanged, IsFound, IsUnmounted, Served, TellsFinding}
 use Rattle.command_server.specs.Session.{Session, point}
 use Rattle.command_server.specs.Session.Last.{Nothing}
-use Rattle.command_server.specs.declared.finding.Finding.{Finding}
+use Rattle.log_volume.specs.declared.finding.Finding.{Finding}
 use Rattle.command_server.specs.declared.status.Status.{Status}
 use Rattle.command_server.specs.declared.status.Status.TheVariants.{Done, Usage, BadVolume, Device, SourceFailed, SinkFailed, NoMemory, BadStream, Budget}
 use Rattle.command_server.proofs.SessionLemmas.{session_then}
@@ -44,20 +47,21 @@ unchanged_mounted {name = name} {old = old} {new = new} {image = image} found al
       (λ s during. inl (subst (λ (o : Option State). IsSomeAnd o (λ before. HasNoMore before s)) (sym (found is)) (no_more_during image s during)));
 }
 
--- a mount is a session of no command
-mounted : {room : ℕ} {tells : Bool} {text : Text} {sink : Output} {names : List (List ℕ)} {image state : State} {past opened mounted_past : Past} {slot : ℕ} {root : Root}
-    → Adds past opened (λ s. s ≡ image) → (IsTrue tells → Adds opened mounted_past (DuringSync image)) → (IsTrue tells → Fits slot root names state)
-    → Session room tells (point text sink names image past) (point text sink names state mounted_past) None
+-- a mount is a session of no item
+mounted : {room : ℕ} {tells : Bool} {text : Text} {source : Input} {sink : Output} {image state : State} {past opened mounted_past : Past} {volume : Volume}
+    → Adds past opened (λ s. s ≡ image) → (IsTrue tells → Adds opened mounted_past (DuringSync image)) → (IsTrue tells → Fits volume state)
+    → Session room tells (point text source sink (kept_by volume) image past) (point text source sink (kept_by volume) state mounted_past) None
 mounted {text = text} {sink = sink} {image = image} opens syncs fits = record {
-  commands = [];
+  items = [];
   answers = [];
   last = Nothing;
   rest = text;
-  read = refl;
+  told = λ told. told;
+  read = λ told. refl;
   legal = tt;
   put = puts_none sink;
-  ends = (refl, refl);
-  names = λ none. refl;
+  ends = (refl, λ told. refl);
+  kept = λ none. refl;
   moments = λ is. adds_then (adds_weaker opens (λ s e b im. inr (subst (λ (m : State). IsImage m b) e im))) (syncs is) (λ s during b im. inr (no_more_during image s during b im));
   leaves = λ is. ((fits is).all_synced, all_stand (fits is) refl);
 }
@@ -74,34 +78,19 @@ found_cause tells there old new NoMemory finding found told = absurd told
 found_cause tells there old new BadStream finding found told = absurd told
 found_cause tells there old new Budget finding found told = absurd told
 
-module _ {tells : Bool} {name : List ℕ} {old new : Ends} {fixed : Fixed} {image state : State} {opened past : Past} {slot : ℕ} {root : Root} {names : List (List ℕ)}
-    (found : IsTrue tells → image_at old name ≡ Some image) (all : IsTrue tells → (other : List ℕ) → image_named fixed image other ≡ image_at old other)
-    (opens : Adds old.past opened (λ s. s ≡ image)) (syncs : IsTrue tells → Adds opened past (DuringSync image))
-    (fits : IsTrue tells → Fits slot root names state) (is_synced : IsTrue tells → state ≡ synced image) (same : new.fixed ≡ fixed) where
-  -- the input wasn't taken
-  untaken : {status : Status} → UntakenHere (ends_of old.source old.sink fixed state past) new status → Untaken tells name old new status
-  untaken u = record {
-    sink = u.sink;
-    unchanged = unchanged_mounted found (λ is other. ap (λ (f : Fixed). image_named f image other) same ∙ all is other) opens (λ is. inr (u.state ∙ is_synced is))
-        (λ is. adds_then (syncs is) u.moments (λ s none. absurd none));
-    at_most = u.at_most;
-    cause = u.cause;
-  }
-
-  pub served : {status : Status} → UntakenHere (ends_of old.source old.sink fixed state past) new status ⊎ Answered tells root.layout.log_blocks names state (ends_of old.source old.sink fixed state past) new status → Served tells name old new status
-  served either = record {
-    image = image;
-    names = names;
-    room = root.layout.log_blocks;
-    named = found;
-    stands = λ is. subst (λ (l : List Block). Stands l names) (ap (λ (s : State). s.contents) (is_synced is)) (fits is).stands;
-    has_room = λ is. ap (λ (r : Root). r.layout.log_blocks) (sym (fits is).root_is) ∙ ap (λ (s : State). (root_of_image s.contents).layout.log_blocks) (is_synced is);
-    answered = ⊎_elim (λ u. inl (untaken u)) (λ a. inr (record {
-      bytes = a.bytes;
-      takes = a.takes;
-      whole = a.whole;
-      within = a.within;
-      left = a.left;
-      session = session_then (mounted opens syncs fits) a.session;
-    })) either;
-  }
+-- a session over a volume that was mounted from an image
+pub served : {tells : Bool} {name : List ℕ} {old new : Ends} {fixed : Fixed} {image state : State} {opened past : Past} {volume : Volume} {status : Status}
+    → (IsTrue tells → image_at old name ≡ Some image) → Adds old.past opened (λ s. s ≡ image) → (IsTrue tells → Adds opened past (DuringSync image))
+    → (IsTrue tells → Fits volume state) → (IsTrue tells → state ≡ synced image)
+    → (left : Kept) × Session volume.root.layout.log_blocks tells (point (text_of_source session_budget old.source) old.source old.sink (kept_by volume) state past) (point no_text new.source new.sink left new.state new.past) (Some status)
+    → Served tells name old new status
+served {image = image} {volume = volume} found opens syncs fits is_synced session = record {
+  image = image;
+  kept = kept_by volume;
+  room = volume.root.layout.log_blocks;
+  named = found;
+  stands = λ is. subst (λ (l : List Block). Stands l (kept_by volume)) (ap (λ (s : State). s.contents) (is_synced is)) (fits is).stands;
+  has_room = λ is. ap (λ (r : Root). r.layout.log_blocks) (sym (fits is).root_is) ∙ ap (λ (s : State). (root_of_image s.contents).layout.log_blocks) (is_synced is);
+  left = session.0;
+  session = session_then (mounted opens syncs fits) session.1;
+}

@@ -4,14 +4,14 @@ use Rattle.vol_numbers.specs.declared.block.Block.{Block}
 use Rattle.disk_model.specs.Disk.{State, IsImage}
 use Rattle.disk_model.specs.Media.{Fixed, image_named}
 use Rattle.disk_model.specs.Past.{Past, Adds}
-use Rattle.wire_ends.specs.Ends.{Input, Output, Takes, Puts, PutsPart}
-use Rattle.command_server.specs.Finding.{Finds}
-use Rattle.command_server.specs.Image.{Stands, layout_in}
-use Rattle.command_server.specs.Serving.{text_in, no_text}
+use Rattle.wire_ends.specs.Ends.{Input, Output, Puts, PutsPart}
+use Rattle.log_volume.specs.Finding.{Finds}
+use Rattle.log_volume.specs.Image.{Stands, layout_in}
+use Rattle.log_volume.specs.Replay.{Kept}
+use Rattle.command_server.specs.Serving.{text_of_source, no_text, session_budget}
 use Rattle.command_server.specs.Session.{Session, point}
-use Rattle.command_server.specs.Taking.{TakesCount, TakesAtMost}
 use Rattle.command_server.specs.Texts.{finding_text}
-use Rattle.command_server.specs.declared.finding.Finding.{Finding}
+use Rattle.log_volume.specs.declared.finding.Finding.{Finding}
 use Rattle.command_server.specs.declared.status.Status.{Status}
 use Rattle.command_server.specs.declared.status.Status.TheVariants.{Done, Usage, BadVolume, Device, SourceFailed, SinkFailed, NoMemory, BadStream, Budget}
 
@@ -64,58 +64,23 @@ pub record Unmounted (tells : Bool) (name : List ℕ) (old new : Ends) (status :
   pub unchanged : Unchanged tells name old new
   pub cause : IsUnmounted status tells (image_at old name) old new
 
--- why the input wasn't taken
-abbrev pub IsUntaken : Status → Input → Input → Type 0
-IsUntaken SourceFailed old new = Unit {0}
-IsUntaken Budget old new = TakesCount old new 65536
-IsUntaken NoMemory old new = Unit {0}
-IsUntaken Done old new = ⊥
-IsUntaken Usage old new = ⊥
-IsUntaken BadVolume old new = ⊥
-IsUntaken Device old new = ⊥
-IsUntaken SinkFailed old new = ⊥
-IsUntaken BadStream old new = ⊥
-
--- A volume was mounted, but the input wasn't taken whole: no command was read.
-pub record Untaken (tells : Bool) (name : List ℕ) (old new : Ends) (status : Status) : Type 0 where
-  pub sink : new.sink ≡ old.sink
-  pub unchanged : Unchanged tells name old new
-  pub at_most : TakesAtMost old.source new.source 65536
-  pub cause : IsUntaken status old.source new.source
-
--- The input was taken whole, and a session over this image followed, which stood for these files.
-pub record Answered (tells : Bool) (room : ℕ) (names : List (List ℕ)) (image : State) (old new : Ends) (status : Status) : Type 0 where
-  pub bytes : List ℕ
-  pub takes : Takes old.source new.source bytes
-  pub whole : IsTrue old.source.is_told → new.source.left ≡ []
-  pub within : length bytes < 65536
-  pub left : List (List ℕ)
-  pub session : Session room tells
-      (point (text_in bytes) old.sink names image old.past)
-      (point no_text new.sink left new.state new.past)
-      (Some status)
-
--- A volume was mounted from the named image. It stood for these files, and its log has room for so many records.
+-- A volume was mounted from the named image, which stood for this tree and this use of a log of so many blocks, and a session followed.
 pub record Served (tells : Bool) (name : List ℕ) (old new : Ends) (status : Status) : Type 0 where
   pub image : State
-  pub names : List (List ℕ)
+  pub kept : Kept
   pub room : ℕ
   pub named : IsTrue tells → image_at old name ≡ Some image
-  pub stands : IsTrue tells → Stands image.contents names
+  pub stands : IsTrue tells → Stands image.contents kept
   pub has_room : IsTrue tells → room ≡ (layout_in image.contents).log_blocks
-  pub answered : Untaken tells name old new status ⊎ Answered tells room names image old new status
+  pub left : Kept
+  pub session : Session room tells
+      (point (text_of_source session_budget old.source) old.source old.sink kept image old.past)
+      (point no_text new.source new.sink left new.state new.past)
+      (Some status)
 
 -- it ended before a volume was mounted, or a session followed from what the image stood for
 abbrev pub Serves : Bool → List ℕ → Ends → Ends → Status → Type 0
 Serves tells name old new status = Unmounted tells name old new status ⊎ Served tells name old new status
-
--- The input wasn't taken, and the disk that was mounted wasn't touched: no moment is added.
-pub record UntakenHere (old new : Ends) (status : Status) : Type 0 where
-  pub sink : new.sink ≡ old.sink
-  pub state : new.state ≡ old.state
-  pub moments : Adds old.past new.past (λ s. ⊥)
-  pub at_most : TakesAtMost old.source new.source 65536
-  pub cause : IsUntaken status old.source new.source
 
 -- what is put of a finding, by the status
 abbrev pub TellsFinding : Finding → Status → Output → Output → Type 0

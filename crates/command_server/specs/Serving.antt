@@ -1,24 +1,29 @@
--- What one line of a session is, in the code.
-use Rattle.std.specs.Prelude.{true, false, [], Option, Some, None}
+-- What a session reads, and what one item is in the code.
+use Rattle.std.specs.Prelude.{ℕ, true, false, [], Option, Some, None}
+use Rattle.wire_ends.specs.Ends.{Input}
+use Rattle.command_text.specs.Text.{Text}
 use Rattle.command_server.specs.declared.serving.Served.{Served}
 use Rattle.command_server.specs.declared.serving.Served.TheVariants.{GoesOn, Ends}
 use Rattle.command_server.specs.declared.status.Status.{Status}
-use Rattle.command_server.specs.Lines.{Text}
-use Rattle.std.specs.Prelude.{ℕ, List}
 
--- how the session ended, if it did
-abbrev pub ended_by : Served → Option Status
-ended_by (GoesOn behind) = None
-ended_by (Ends status) = Some status
+-- how many bytes a session takes at most: 2^40
+abbrev pub session_budget : ℕ
+session_budget = 1099511627776
 
-abbrev pub text_in : List ℕ → Text
-text_in bytes = record { bytes = bytes; is_over = false }
+-- the text that a source has, under a budget
+abbrev pub text_of_source : ℕ → Input → Text
+text_of_source budget source = record { bytes = source.left; budget = budget; is_over = false }
 
 -- after the end nothing is to be read
 abbrev pub no_text : Text
-no_text = record { bytes = []; is_over = true }
+no_text = record { bytes = []; budget = 0; is_over = true }
+
+-- how the session ended, if it did
+abbrev pub ended_by : Served → Option Status
+ended_by GoesOn = None
+ended_by (Ends status) = Some status
 
 -- what is to be read then
-abbrev pub left_by : Served → Text
-left_by (GoesOn behind) = text_in behind.now
-left_by (Ends status) = no_text
+abbrev pub left_by : Served → Text → Text
+left_by GoesOn text = text
+left_by (Ends status) text = no_text

@@ -1,7 +1,11 @@
 -- What a run writes.
 use Rattle.std.specs.Prelude.{ℕ, List, ◌++◌, codes, decimal}
-use Rattle.command_server.specs.declared.finding.Finding.{Finding}
-use Rattle.command_server.specs.declared.finding.Finding.TheVariants.{NoRoot, BadGeometry, Unbuilt, BadLog}
+use Rattle.std.specs.List.{flat_map}
+use Rattle.command_text.specs.Replies.{reply_text}
+use Rattle.log_volume.specs.declared.answer.Answer.{Answer}
+use Rattle.log_volume.specs.declared.answer.Answer.TheVariants.{Reply, LogFull}
+use Rattle.log_volume.specs.declared.finding.Finding.{Finding}
+use Rattle.log_volume.specs.declared.finding.Finding.TheVariants.{NoRoot, BadGeometry, Unbuilt, BadLog}
 
 -- the line for words that are outside the table of actions
 abbrev pub usage_text : List ℕ
@@ -21,3 +25,11 @@ finding_text NoRoot = codes "bad NoRoot\n"
 finding_text BadGeometry = codes "bad BadGeometry\n"
 finding_text Unbuilt = codes "bad Unbuilt\n"
 finding_text (BadLog index) = bad_log_text index
+
+-- the text of an answer
+abbrev pub text_of : Answer → List ℕ
+text_of (Reply reply) = reply_text reply
+text_of LogFull = codes "refused 16 LogFull\n"
+
+abbrev pub texts_of : List Answer → List ℕ
+texts_of answers = flat_map text_of answers

@@ -1,43 +1,8 @@
-//! Laws of what an image stands for. Whatever carries images from one state to the next rests on these alone.
+//! What the promise of a session says to a later one.
 ghost use Rattle.command_server.specs.Staying.{AcknowledgedStay};
-ghost use Rattle.command_server.specs.Laws.{OneMeaning, KeptMeaning, ImagesStand, NextStands, OneSpelling, FreshStands, FindsNothing};
 
-/// An image stands for one list of files at most.
-pub fn one_meaning()
-    ensures { OneMeaning }
-{}
-
-/// An image with the same root and the same live blocks stands for the same.
-pub fn kept_meaning()
-    ensures { KeptMeaning }
-{}
-
-/// Where no live block is unsynced, nor the selector and the root that it names, each image stands for what the contents stand for.
-pub fn images_stand()
-    ensures { ImagesStand }
-{}
-
-/// With a record behind the log and a root that counts it, an image stands for one file more.
-pub fn next_stands()
-    ensures { NextStands }
-{}
-
-/// Each name has one record, and each record one name.
-pub fn one_spelling()
-    ensures { OneSpelling }
-{}
-
-/// An image in which a mount finds something stands for nothing.
-pub fn found_stands_for_nothing()
-    ensures { FindsNothing }
-{}
-
-/// A volume as a format leaves it stands for no files.
-pub fn fresh_stands()
-    ensures { FreshStands }
-{}
-
-/// However a session ended, and whatever a power cut left of its disk: a later session finds each file that was acknowledged.
+/// However a session ended, and whatever a power cut left of its disk: what is mounted from it is the tree after the first of the accepted
+/// commands, among them all that were acknowledged.
 pub fn acknowledged_stay()
     ensures { AcknowledgedStay }
 {}

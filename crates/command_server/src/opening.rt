@@ -1,23 +1,25 @@
 //! A session over a named image.
-ghost use Rattle.std.specs.Prelude.{◌≡◌, ◌≢◌, ◌⊎◌, ◌≤◌, List, ℕ, Some, IsTrue};
-ghost use Rattle.root_switch.specs.Root.{root_of};
+ghost use Rattle.std.specs.Prelude.{◌≡◌, ◌≢◌, List, ℕ, Some, false, IsTrue};
 ghost use Rattle.disk_model.specs.Media.{image_named};
 ghost use Rattle.command_server.specs.Faults.{device_faults, source_faults, sink_faults};
-ghost use Rattle.command_server.specs.Fits.{Fits};
-ghost use Rattle.command_server.specs.Serves.{Serves, UntakenHere, Answered, TellsFinding, ends_of};
+ghost use Rattle.command_server.specs.Serves.{Serves, TellsFinding, ends_of};
+ghost use Rattle.command_server.specs.Serving.{text_of_source, no_text, session_budget};
+ghost use Rattle.command_server.specs.Session.{Session, point};
+ghost use Rattle.log_volume.specs.Fits.{Fits, kept_by};
+ghost use Rattle.log_volume.specs.Replay.{Kept};
 
 use crate::Status;
-use crate::finding::Finding;
-use crate::input::{InputFault, read_input};
-use crate::mounting::{MountFault, mount};
 use crate::reply::put_finding;
 use crate::serving::serve;
-use crate::volume::LogVolume;
 use disk_model::{Disk, Media, OpenFault};
+use log_volume::{Finding, LogVolume, MountFault, mount};
 use std::alloc::Global;
 use wire_ends::{Sink, SinkFault, Source};
 
-/// Opens an image, mounts its volume, takes the input and answers it.
+/// How many bytes a session takes at most.
+const SESSION_BUDGET: u64 = 1_099_511_627_776;
+
+/// Opens an image, mounts its volume, and serves a session over it.
 pub(crate) fn serve_image<M: Media, R: Source, W: Sink>(
     alloc: Global,
     image: &str,
@@ -40,43 +42,35 @@ pub(crate) fn serve_image<M: Media, R: Source, W: Sink>(
         Err(OpenFault::OutOfMemory) => return Status::NoMemory,
     }
     match mount(alloc, media) {
-        Ok(volume) => serve_input(alloc, volume, media, source, sink),
+        Ok(volume) => serve_mounted(alloc, volume, media, source, sink),
         Err(MountFault::Found(finding)) => tell_finding(sink, finding),
         Err(MountFault::Device) => Status::Device,
         Err(MountFault::OutOfMemory) => Status::NoMemory,
     }
 }
 
-/// Takes the input of a session over a mounted volume, and answers it.
-fn serve_input<D: Disk, R: Source, W: Sink>(
+/// Serves a session over a mounted volume.
+fn serve_mounted<D: Disk, R: Source, W: Sink>(
     alloc: Global,
     volume: LogVolume,
     disk: &mut D,
     source: &mut R,
     sink: &mut W,
 ) -> Status
-    requires size { (root_of volume.current.body).layout.blocks ≡ (D.fixed disk.old).size }
-    requires fits { IsTrue D.tells → Fits volume.current.slot (root_of volume.current.body) volume.names.items (D.state disk.old) }
-    ensures answered { UntakenHere
-        (ends_of (R.seen source.old) (W.seen sink.old) (D.fixed disk.old) (D.state disk.old) (D.past disk.old))
-        (ends_of (R.seen source.new) (W.seen sink.new) (D.fixed disk.new) (D.state disk.new) (D.past disk.new))
-        result
-        ⊎ Answered D.tells (root_of volume.current.body).layout.log_blocks volume.names.items (D.state disk.old)
-        (ends_of (R.seen source.old) (W.seen sink.old) (D.fixed disk.old) (D.state disk.old) (D.past disk.old))
-        (ends_of (R.seen source.new) (W.seen sink.new) (D.fixed disk.new) (D.state disk.new) (D.past disk.new))
-        result }
-    ensures fixed { D.fixed disk.new ≡ D.fixed disk.old }
+    requires sound { volume.is_failed ≡ false }
+    requires size { volume.root.layout.blocks ≡ (D.fixed disk.old).size }
+    requires fits { IsTrue D.tells → Fits volume (D.state disk.old) }
+    ensures session { (left : Kept) × Session volume.root.layout.log_blocks D.tells
+        (point (text_of_source session_budget (R.seen source.old)) (R.seen source.old) (W.seen sink.old) (kept_by volume) (D.state disk.old) (D.past disk.old))
+        (point no_text (R.seen source.new) (W.seen sink.new) left (D.state disk.new) (D.past disk.new))
+        (Some result) }
     ensures device_faults { D.faults disk.new ≡ device_faults result (D.faults disk.old) }
     ensures source_faults { (R.seen source.new).faults ≡ source_faults result (R.seen source.old).faults }
     ensures sink_faults { (W.seen sink.new).faults ≡ sink_faults result (W.seen sink.old).faults }
+    ensures fixed { D.fixed disk.new ≡ D.fixed disk.old }
 {
     let mut volume = volume;
-    match read_input(alloc, source) {
-        Ok(bytes) => serve(&mut volume, disk, &bytes, sink),
-        Err(InputFault::Source) => Status::SourceFailed,
-        Err(InputFault::Budget) => Status::Budget,
-        Err(InputFault::OutOfMemory) => Status::NoMemory,
-    }
+    serve(alloc, &mut volume, disk, source, sink, SESSION_BUDGET)
 }
 
 /// Says why an image stands for nothing.

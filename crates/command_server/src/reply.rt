@@ -1,14 +1,17 @@
 //! The lines that a run writes.
-ghost use Rattle.std.specs.Prelude.{◌≡◌};
+ghost use Rattle.std.specs.Prelude.{codes};
 ghost use Rattle.vol_numbers.specs.Cause.{HasCause};
-ghost use Rattle.command_server.specs.Lines.{text_of, TextsTell};
-ghost use Rattle.command_server.specs.Texts.{usage_text, formatted_text, finding_text, bad_log_text};
+ghost use Rattle.command_text.specs.Putting.{PutsAnswer, HasPutCause};
+ghost use Rattle.command_text.specs.Replies.{reply_text};
 ghost use Rattle.command_server.specs.Putting.{PutsText};
+ghost use Rattle.command_server.specs.Texts.{usage_text, formatted_text, finding_text, bad_log_text, text_of};
 
-use crate::command::Answer;
-use crate::finding::Finding;
 use arrayvec::ArrayString;
+use command_text::{PutFault, write_reply};
 use itoa::Buffer;
+use log_volume::{Answer, Finding};
+use std::alloc::Global;
+use tree_model::Reply;
 use wire_ends::{Sink, SinkFault};
 
 /// Says how the program is called.
@@ -58,27 +61,41 @@ fn put_bad_log<W: Sink>(sink: &mut W, index: u32) -> Result<(), SinkFault>
 }
 
 /// Puts an answer.
-pub(crate) fn put_answer<W: Sink>(sink: &mut W, answer: Answer) -> Result<(), SinkFault>
-    ensures text { PutsText (W.seen sink.old) (W.seen sink.new) (text_of answer) result }
-    ensures cause { HasCause (W.seen sink.old).faults (W.seen sink.new).faults result }
-{
-    sink.put(text_of(answer))
-}
-
-/// The line of an answer.
-fn text_of(answer: Answer) -> &'static [u8]
-    ensures { result.now ≡ text_of answer }
+///
+/// # Errors
+///
+/// The sink failed, and a part of the text was put; or memory was wanting for the names of a list, and nothing was.
+pub(crate) fn put_answer<W: Sink>(
+    alloc: Global,
+    sink: &mut W,
+    answer: Answer,
+) -> Result<(), PutFault>
+    ensures text { PutsAnswer (W.seen sink.old) (W.seen sink.new) (text_of answer) result }
+    ensures cause { HasPutCause (W.seen sink.old).faults (W.seen sink.new).faults result }
 {
     match answer {
-        Answer::Done => b"ok\n",
-        Answer::BadCommand => b"refused 1 BadCommand\n",
-        Answer::Exists => b"refused 6 Exists\n",
-        Answer::OutOfMemory => b"refused 15 OutOfMemory\n",
-        Answer::LogFull => b"refused 16 LogFull\n",
+        Answer::Reply(reply) => put_reply(alloc, sink, reply),
+        Answer::LogFull => put_log_full(sink),
     }
 }
 
-/// No two lists of answers have one text.
-pub fn texts_tell_answers()
-    ensures { TextsTell }
-{}
+fn put_reply<W: Sink>(alloc: Global, sink: &mut W, reply: Reply) -> Result<(), PutFault>
+    ensures text { PutsAnswer (W.seen sink.old) (W.seen sink.new) (reply_text reply) result }
+    ensures cause { HasPutCause (W.seen sink.old).faults (W.seen sink.new).faults result }
+{
+    let answer = tree_model::Answer {
+        report: None,
+        reply,
+    };
+    write_reply(alloc, sink, &answer)
+}
+
+fn put_log_full<W: Sink>(sink: &mut W) -> Result<(), PutFault>
+    ensures text { PutsAnswer (W.seen sink.old) (W.seen sink.new) (codes "refused 16 LogFull\n") result }
+    ensures cause { HasPutCause (W.seen sink.old).faults (W.seen sink.new).faults result }
+{
+    match sink.put(b"refused 16 LogFull\n") {
+        Ok(()) => Ok(()),
+        Err(SinkFault) => Err(PutFault::Sink),
+    }
+}

@@ -14,8 +14,9 @@ ghost use Rattle.command_server.specs.declared.status.Status.TheVariants.{Done, 
 use crate::opening::serve_image;
 use crate::reply::{put_formatted, put_usage};
 use crate::words::{Request, read_words};
-use crate::{Status, format};
+use crate::Status;
 use disk_model::{DiskFault, Media, OpenFault};
+use log_volume::format;
 use std::alloc::Global;
 use vol_numbers::Geometry;
 use wire_ends::{Sink, SinkFault, Source};

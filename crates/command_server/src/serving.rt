@@ -1,85 +1,157 @@
-//! A session over a volume: line after line is answered.
-ghost use Rattle.std.specs.Prelude.{◌≡◌, ◌<◌, ◌≤◌, Some, IsNone, IsTrue, length};
-ghost use Rattle.root_switch.specs.Root.{root_of};
-ghost use Rattle.command_server.specs.Faults.{device_faults, sink_faults, faults_then};
-ghost use Rattle.command_server.specs.Fits.{Fits};
+//! A session over a volume: item after item is read and answered.
+ghost use Rattle.std.specs.Prelude.{◌≡◌, ◌≢◌, ◌<◌, ◌+◌, [], length, false, None, Some, OnOk, OnErr, IsNone, IsTrue};
+ghost use Rattle.vol_numbers.specs.Cause.{HasCause};
+ghost use Rattle.disk_model.specs.Disk.{EachImage};
+ghost use Rattle.disk_model.specs.Past.{Adds};
+ghost use Rattle.log_volume.specs.Fits.{Fits, StandsForSome, kept_by};
+ghost use Rattle.log_volume.specs.Replay.{after};
+ghost use Rattle.command_text.specs.Reading.{unread};
+ghost use Rattle.command_text.specs.declared.item.Item.TheVariants.{Ended};
+ghost use Rattle.command_server.specs.Answering.{status_of, Says};
+ghost use Rattle.command_server.specs.Faults.{device_faults, source_faults, sink_faults, faults_then};
+ghost use Rattle.command_server.specs.Items.{IsLegal, added_by};
+ghost use Rattle.command_server.specs.Serving.{ended_by, left_by, text_of_source, no_text};
 ghost use Rattle.command_server.specs.Session.{Session, point};
-ghost use Rattle.command_server.specs.Serving.{ended_by, left_by, text_in, no_text};
+ghost use Rattle.command_server.specs.Texts.{text_of};
 
 use crate::Status;
-use crate::command::{Command, Stopped};
-use crate::lines::{Line, first_line};
 use crate::reply::put_answer;
-use crate::volume::LogVolume;
+use command_text::{CommandReader, Item, PutFault, TextFault};
 use disk_model::Disk;
-use wire_ends::{Sink, SinkFault};
+use log_volume::{Answer, LogVolume, Stopped};
+use std::alloc::Global;
+use tree_model::Reply;
+use wire_ends::{Sink, Source};
 
-/// What became of one line: the session goes on with the text behind it, or ends.
-pub(crate) enum Served<'a> {
-    GoesOn(&'a [u8]),
+/// What became of one item: the session goes on, or ends.
+#[derive(Clone, Copy)]
+pub(crate) enum Served {
+    GoesOn,
     Ends(Status),
 }
 
-/// Answers the lines of a text one after the other.
-pub(crate) fn serve<D: Disk, W: Sink>(
+/// Answers the commands of a source, which gives at most so many bytes, one after the other. An answer is put before more is taken from the
+/// source. The session ends with the status that tells why.
+pub fn serve<D: Disk, R: Source, W: Sink>(
+    alloc: Global,
     volume: &mut LogVolume,
     disk: &mut D,
-    text: &[u8],
+    source: &mut R,
     sink: &mut W,
+    budget: u64,
 ) -> Status
-    requires size { (root_of volume.old.current.body).layout.blocks ≡ (D.fixed disk.old).size }
-    requires fits { IsTrue D.tells → Fits volume.old.current.slot (root_of volume.old.current.body) volume.old.names.items (D.state disk.old) }
-    ensures session { Session (root_of volume.old.current.body).layout.log_blocks D.tells
-        (point (text_in text.now) (W.seen sink.old) volume.old.names.items (D.state disk.old) (D.past disk.old))
-        (point no_text (W.seen sink.new) volume.new.names.items (D.state disk.new) (D.past disk.new))
+    requires sound { volume.old.is_failed ≡ false }
+    requires size { volume.old.root.layout.blocks ≡ (D.fixed disk.old).size }
+    requires fits { IsTrue D.tells → Fits volume.old (D.state disk.old) }
+    ensures session { Session volume.old.root.layout.log_blocks D.tells
+        (point (text_of_source budget (R.seen source.old)) (R.seen source.old) (W.seen sink.old) (kept_by volume.old) (D.state disk.old) (D.past disk.old))
+        (point no_text (R.seen source.new) (W.seen sink.new) (kept_by volume.new) (D.state disk.new) (D.past disk.new))
         (Some result) }
     ensures device_faults { D.faults disk.new ≡ device_faults result (D.faults disk.old) }
+    ensures source_faults { (R.seen source.new).faults ≡ source_faults result (R.seen source.old).faults }
     ensures sink_faults { (W.seen sink.new).faults ≡ sink_faults result (W.seen sink.old).faults }
     ensures fixed { D.fixed disk.new ≡ D.fixed disk.old }
 {
-    let mut rest = text;
-    loop {
-        match serve_line(volume, disk, rest, sink) {
-            Served::GoesOn(behind) => rest = behind,
+    let Ok(reader) = CommandReader::new(alloc, budget) else {
+        return Status::NoMemory;
+    };
+    let mut reader = reader;
+    'items: loop {
+        match serve_item(alloc, &mut reader, volume, disk, source, sink) {
+            Served::GoesOn => {}
             Served::Ends(status) => return status,
         }
     }
 }
 
-/// Answers the first line of a text.
-fn serve_line<'a, D: Disk, W: Sink>(
+/// Reads an item and answers it.
+fn serve_item<D: Disk, R: Source, W: Sink>(
+    alloc: Global,
+    reader: &mut CommandReader,
     volume: &mut LogVolume,
     disk: &mut D,
-    text: &'a [u8],
+    source: &mut R,
     sink: &mut W,
-) -> Served<'a>
-    requires size { (root_of volume.old.current.body).layout.blocks ≡ (D.fixed disk.old).size }
-    requires fits { IsTrue D.tells → Fits volume.old.current.slot (root_of volume.old.current.body) volume.old.names.items (D.state disk.old) }
-    ensures session { Session (root_of volume.old.current.body).layout.log_blocks D.tells
-        (point (text_in text.now) (W.seen sink.old) volume.old.names.items (D.state disk.old) (D.past disk.old))
-        (point (left_by result) (W.seen sink.new) volume.new.names.items (D.state disk.new) (D.past disk.new))
+) -> Served
+    requires no_fault { reader.old.fault ≡ None }
+    requires sound { volume.old.is_failed ≡ false }
+    requires size { volume.old.root.layout.blocks ≡ (D.fixed disk.old).size }
+    requires fits { IsTrue D.tells → Fits volume.old (D.state disk.old) }
+    ensures session { Session volume.old.root.layout.log_blocks D.tells
+        (point (unread reader.old (R.seen source.old)) (R.seen source.old) (W.seen sink.old) (kept_by volume.old) (D.state disk.old) (D.past disk.old))
+        (point (left_by result (unread reader.new (R.seen source.new))) (R.seen source.new) (W.seen sink.new) (kept_by volume.new) (D.state disk.new) (D.past disk.new))
         (ended_by result) }
+    ensures layout { volume.new.root.layout ≡ volume.old.root.layout }
+    ensures sound { IsNone (ended_by result) → volume.new.is_failed ≡ false }
+    ensures fits { IsNone (ended_by result) → IsTrue D.tells → Fits volume.new (D.state disk.new) }
+    ensures no_fault { IsNone (ended_by result) → reader.new.fault ≡ None }
+    ensures falls { IsNone (ended_by result) → length reader.new.held + reader.new.budget < length reader.old.held + reader.old.budget }
     ensures device_faults { D.faults disk.new ≡ faults_then device_faults (ended_by result) (D.faults disk.old) }
+    ensures source_faults { (R.seen source.new).faults ≡ faults_then source_faults (ended_by result) (R.seen source.old).faults }
     ensures sink_faults { (W.seen sink.new).faults ≡ faults_then sink_faults (ended_by result) (W.seen sink.old).faults }
-    ensures layout { (root_of volume.new.current.body).layout ≡ (root_of volume.old.current.body).layout }
-    ensures fits { IsNone (ended_by result) → IsTrue D.tells → Fits volume.new.current.slot (root_of volume.new.current.body) volume.new.names.items (D.state disk.new) }
-    ensures shorter { IsNone (ended_by result) → length (left_by result).bytes < length text.now }
     ensures fixed { D.fixed disk.new ≡ D.fixed disk.old }
 {
-    let (command, behind) = match first_line(text) {
-        Line::Command(command, behind) => (command, behind),
-        Line::Ended => return Served::Ends(Status::Done),
-        Line::Bad => return Served::Ends(Status::BadStream),
+    let item = match reader.read_command(source) {
+        Ok(Item::Ended) => return Served::Ends(Status::Done),
+        Ok(item) => item,
+        Err(fault) => return Served::Ends(status_of(fault)),
     };
-    let answer = match volume.apply(disk, &command) {
-        Ok(answer) => answer,
-        Err(Stopped) => return Served::Ends(Status::Device),
-    };
-    if let Err(SinkFault) = put_answer(sink, answer) {
-        return Served::Ends(Status::SinkFailed);
+    match answer_to(volume, disk, &item) {
+        Ok(answer) => say(alloc, sink, answer),
+        Err(Stopped::Now | Stopped::Before) => Served::Ends(Status::Device),
     }
-    match &command {
-        Command::End => Served::Ends(Status::Done),
-        _ => Served::GoesOn(behind),
+}
+
+/// The status of a session whose next item can't be read.
+fn status_of(fault: TextFault) -> Status
+    ensures { result ≡ status_of fault }
+{
+    match fault {
+        TextFault::Source => Status::SourceFailed,
+        TextFault::BadStream => Status::BadStream,
+        TextFault::Budget => Status::Budget,
+        TextFault::OutOfMemory => Status::NoMemory,
+    }
+}
+
+/// The answer to an item, where the volume doesn't stop at it.
+fn answer_to<D: Disk>(
+    volume: &mut LogVolume,
+    disk: &mut D,
+    item: &Item,
+) -> Result<Answer, Stopped>
+    requires some { item.now ≢ Ended }
+    requires sound { volume.old.is_failed ≡ false }
+    requires size { volume.old.root.layout.blocks ≡ (D.fixed disk.old).size }
+    requires fits { IsTrue D.tells → Fits volume.old (D.state disk.old) }
+    ensures legal { IsLegal volume.old.root.layout.log_blocks (kept_by volume.old) item.now result }
+    ensures kept { OnOk result (kept_by volume.new ≡ after (added_by volume.old.root.layout.log_blocks (kept_by volume.old) item.now result) (kept_by volume.old)) }
+    ensures layout { volume.new.root.layout ≡ volume.old.root.layout }
+    ensures sound { OnOk result (volume.new.is_failed ≡ false) }
+    ensures fits { OnOk result (IsTrue D.tells → Fits volume.new (D.state disk.new)) }
+    ensures during { IsTrue D.tells → Adds (D.past disk.old) (D.past disk.new)
+        (EachImage (StandsForSome (kept_by volume.old) (added_by volume.old.root.layout.log_blocks (kept_by volume.old) item.now result))) }
+    ensures left { OnErr result (IsTrue D.tells
+        → EachImage (StandsForSome (kept_by volume.old) (added_by volume.old.root.layout.log_blocks (kept_by volume.old) item.now result)) (D.state disk.new)) }
+    ensures unsynced { OnErr result (IsTrue D.tells → (D.state disk.new).unsynced ≢ []) }
+    ensures fixed { D.fixed disk.new ≡ D.fixed disk.old }
+    ensures cause { HasCause (D.faults disk.old) (D.faults disk.new) result }
+{
+    match item {
+        Item::Command(command) => volume.apply(disk, command),
+        Item::Refused(refusal) => Ok(Answer::Reply(Reply::Refused(*refusal))),
+        Item::Ended => unreachable!(),
+    }
+}
+
+/// Puts an answer.
+fn say<W: Sink>(alloc: Global, sink: &mut W, answer: Answer) -> Served
+    ensures says { Says (text_of answer) result (W.seen sink.old) (W.seen sink.new) }
+    ensures sink_faults { (W.seen sink.new).faults ≡ faults_then sink_faults (ended_by result) (W.seen sink.old).faults }
+{
+    match put_answer(alloc, sink, answer) {
+        Ok(()) => Served::GoesOn,
+        Err(PutFault::Sink) => Served::Ends(Status::SinkFailed),
+        Err(PutFault::OutOfMemory) => Served::Ends(Status::NoMemory),
     }
 }

@@ -151,7 +151,7 @@ pub data_stopped : (fault : TextFault) (reading : Reading) (from to : Input) (en
 data_stopped BadStream reading from to end path offset count asks short fails =
     inr (record { undecided = front_short reading.held end path offset count asks short; some = omega (arith, (place_of_found is_newline reading.held end asks.ends.found).1); ends = fails })
 data_stopped Budget reading from to end path offset count asks short fails = record { undecided = front_short reading.held end path offset count asks short; spent = fails }
-data_stopped Source reading from to end path offset count asks short fails = tt
+data_stopped Source reading from to end path offset count asks short fails = front_short reading.held end path offset count asks short
 data_stopped OutOfMemory reading from to end path offset count asks short fails = tt
 
 -- what was answered of the input between is answered of the input before
@@ -161,7 +161,7 @@ inside_from reading from between to told inside = record { undecided = inside.un
 stopped_from : (fault : TextFault) (reading : Reading) (from between to : Input) → (IsTrue from.is_told → IsTrue between.is_told) → Stopped fault reading between to → Stopped fault reading from to
 stopped_from BadStream reading from between to told stopped = ⊎_elim (λ (wrong : IsWrong reading.held). inl wrong) (λ (inside : EndsInside reading between to). inr (inside_from reading from between to told inside)) stopped
 stopped_from Budget reading from between to told stopped = stopped
-stopped_from Source reading from between to told stopped = tt
+stopped_from Source reading from between to told stopped = stopped
 stopped_from OutOfMemory reading from between to told stopped = tt
 
 answers_from : (old new : Reading) (from between to : Input) (result : Result Item TextFault) → (IsTrue from.is_told → IsTrue between.is_told) → Answers old new between to result → Answers old new from to result

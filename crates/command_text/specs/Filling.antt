@@ -88,7 +88,7 @@ pub record BudgetEnds (reading : Reading) : Type 0 where
 abbrev pub Stopped : TextFault → Reading → Input → Input → Type 0
 Stopped BadStream reading from to = IsWrong reading.held ⊎ EndsInside reading from to
 Stopped Budget reading from to = BudgetEnds reading
-Stopped Source reading from to = Unit {0}
+Stopped Source reading from to = Undecided reading.held
 Stopped OutOfMemory reading from to = Unit {0}
 
 -- so many bytes are an item, and what lies behind them is held

@@ -1,5 +1,5 @@
 -- What a reader has, and what a call of it does.
-use Rattle.std.specs.Prelude.{◌≡◌, ◌+◌, ◌++◌, ◌<◌, ◌≤◌, ◌⊎◌, ℕ, Bool, List, [], length, Option, Some, Result, Ok, Err}
+use Rattle.std.specs.Prelude.{◌≡◌, ◌+◌, ◌++◌, ◌<◌, ◌≤◌, ◌⊎◌, ℕ, Bool, List, [], length, Option, Some, Result, Ok, Err, IsTrue}
 use Rattle.vol_numbers.specs.Cause.{raised}
 use Rattle.wire_ends.specs.Ends.{Input, Takes}
 use Rattle.command_text.specs.declared.item.Item.{Item}
@@ -54,6 +54,11 @@ pub record TakesForNext (old new : Reading) (from to : Input) : Type 0 where
   pub takes : Takes from to taken
   pub counted : old.budget ≡ length taken + new.budget
   pub needed : TakesNeeded Undecided old.held taken
+
+-- Where the source failed, what is held is less than an item, and nothing that was taken is lost.
+pub record LeftUndecided (old new : Reading) (from to : Input) : Type 0 where
+  pub undecided : Undecided new.held
+  pub kept : IsTrue from.is_told → old.held ++ from.left ≡ new.held ++ to.left
 
 -- a failed source is counted, and nothing else
 abbrev pub HasTextCause : {T : Type 0} → ℕ → ℕ → Result T TextFault → Type 0

@@ -37,7 +37,7 @@ impl CommandReader {
     ghost use Rattle.command_text.specs.Front.{front, is_newline};
     ghost use Rattle.command_text.specs.Text.{next};
     ghost use Rattle.command_text.specs.declared.item.Item.TheVariants.{Ended};
-    ghost use Rattle.command_text.specs.Reading.{Reading, HasTextCause, Undecided, unread, ReadsNext, TakesForNext, Falls, settled};
+    ghost use Rattle.command_text.specs.Reading.{Reading, HasTextCause, Undecided, unread, ReadsNext, TakesForNext, LeftUndecided, Falls, settled};
     ghost use Rattle.command_text.specs.Filling.{TakesPiece, Fills, IsShorter, LineEnds, InputEnds, Stopped, Fails, AsksToWrite, Reads, ReadsSettled};
 
     /// A reader that takes at most so many bytes.
@@ -72,6 +72,7 @@ impl CommandReader {
         ensures failed { IfErr result (λ fault. self.new.fault ≡ Some fault) }
         ensures goes_on { OnOk result (self.new.fault ≡ None) }
         ensures again { IfSome self.old.fault (λ fault. (result ≡ Err fault) × (self.new ≡ self.old) × (R.seen source.new ≡ R.seen source.old)) }
+        ensures undecided { self.old.fault ≡ None → result ≡ Err Source → LeftUndecided self.old self.new (R.seen source.old) (R.seen source.new) }
         ensures cause { self.old.fault ≡ None → HasTextCause (R.seen source.old).faults (R.seen source.new).faults result }
         ensures budget { self.old.fault ≡ None → result ≡ Err Budget → self.new.budget ≡ 0 }
     {

@@ -1,5 +1,0 @@
-use Rattle.command_server.proofs.ImageLaws.{kept_stands, image_keeps}
-use Rattle.command_server.proofs.meaning.images_stand.Goals as goal
-
-pub returns : goal.returns
-returns c = λ s image names closed is stands. kept_stands s.contents image names (image_keeps s image closed is) stands

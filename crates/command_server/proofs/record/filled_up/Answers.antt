@@ -1,6 +1,0 @@
-use Rattle.std.proofs.Common.{ℕ, List, ◌++◌, length, ap}
-use Rattle.std.proofs.lemmas.List.{drop-replicate}
-use Rattle.command_server.proofs.record.filled_up.Goals as goal
-
-pub returns : goal.returns
-returns c = rw c.copy_from_slice.ensures.after (ap (λ (l : List ℕ). c.args.name.now ++ l) (drop-replicate (length c.args.name.now) 4071 0))
