@@ -79,7 +79,7 @@ found_cause tells there old new BadStream finding found told = absurd told
 found_cause tells there old new Budget finding found told = absurd told
 
 -- a session over a volume that was mounted from an image
-pub served : {tells : Bool} {name : List ℕ} {old new : Ends} {fixed : Fixed} {image state : State} {opened past : Past} {volume : Volume} {status : Status}
+pub served : {tells : Bool} {name : List ℕ} {old new : Ends} {image state : State} {opened past : Past} {volume : Volume} {status : Status}
     → (IsTrue tells → image_at old name ≡ Some image) → Adds old.past opened (λ s. s ≡ image) → (IsTrue tells → Adds opened past (DuringSync image))
     → (IsTrue tells → Fits volume state) → (IsTrue tells → state ≡ synced image)
     → (left : Kept) × Session volume.root.layout.log_blocks tells (point (text_of_source session_budget old.source) old.source old.sink (kept_by volume) state past) (point no_text new.source new.sink left new.state new.past) (Some status)

@@ -12,18 +12,27 @@ use Rattle.log_volume.specs.Image.{Stands}
 use Rattle.log_volume.specs.Replay.{Kept, after}
 use Rattle.log_volume.specs.declared.answer.Answer.{Answer}
 use Rattle.log_volume.specs.declared.answer.Stopped.{Stopped}
+use Rattle.log_volume.specs.declared.answer.Stopped.TheVariants.{Now, Before}
 use Rattle.log_volume.proofs.ImageLaws.{kept_stands, image_keeps}
-use Rattle.command_text.specs.Reading.{ReadsNext}
+use Rattle.std.specs.Prelude.{OnErr}
+use Rattle.command_text.specs.Reading.{ReadsNext, HasTextCause}
+use Rattle.command_text.specs.declared.fault.TextFault.{TextFault}
+use Rattle.command_text.specs.declared.fault.TextFault.TheVariants.{Source, BadStream, Budget, OutOfMemory}
 use Rattle.command_text.specs.Text.{Text, Next, next}
 use Rattle.command_text.specs.Text.Next.{Given}
 use Rattle.command_text.specs.declared.item.Item.{Item}
 use Rattle.command_text.specs.declared.item.Item.TheVariants as item
+use Rattle.command_server.specs.Answering.{status_of, Says}
+use Rattle.command_server.specs.Faults.{device_faults, source_faults, sink_faults, faults_then}
 use Rattle.command_server.specs.Items.{IsLegal, added_by}
+use Rattle.command_server.specs.Serving.{ended_by, left_by, no_text}
 use Rattle.command_server.specs.Texts.{text_of}
-use Rattle.command_server.specs.Session.{StandsForPrefix, MayBeLeft, EndsBy, Session, point}
+use Rattle.command_server.specs.Session.{StandsForPrefix, MayBeLeft, HoldsNoItem, EndsBy, Session, point}
 use Rattle.command_server.specs.Session.Last.{Nothing, Cut, Stop}
+use Rattle.command_server.specs.declared.serving.Served.{Served}
+use Rattle.command_server.specs.declared.serving.Served.TheVariants.{GoesOn, Ends}
 use Rattle.command_server.specs.declared.status.Status.{Status}
-use Rattle.command_server.specs.declared.status.Status.TheVariants.{Device}
+use Rattle.command_server.specs.declared.status.Status.TheVariants as status
 
 pub fits_image : {volume : Volume} {s : State} → Fits volume s → EachImage (λ image. Stands image (kept_by volume)) s
 fits_image {volume = volume} {s = s} fits image is = kept_stands s.contents image (kept_by volume) (image_keeps s image (record { selector = closed 0; root = closed _; live = λ k live. closed k }) is) fits.stands
@@ -79,7 +88,7 @@ module _ {room : ℕ} {tells : Bool} {text behind : Text} {source source' : Inpu
   pub stopped_at : {sink : Output} {kept' : Kept} {last : Text} (stopped : Stopped) → IsLegal room start given (Err stopped)
       → (IsTrue tells → Adds past past' (EachImage (StandsForSome start (added_by room start given (Err stopped)))))
       → (IsTrue tells → EachImage (StandsForSome start (added_by room start given (Err stopped))) state') → (IsTrue tells → state'.unsynced ≢ [])
-      → Session room tells (point text source sink start state past) (point last source' sink kept' state' past') (Some Device)
+      → Session room tells (point text source sink start state past) (point last source' sink kept' state' past') (Some status.Device)
   stopped_at {sink = sink} stopped legal during left_there unsynced = record {
     items = given ∷ [];
     answers = [];
@@ -99,7 +108,7 @@ module _ {room : ℕ} {tells : Bool} {text behind : Text} {source source' : Inpu
     );
   }
 
-  module _ {answer : Answer} {volume' : Volume} (legal : IsLegal room start given (Ok answer)) (kept_is : kept_by volume' ≡ after (added_by room start given (Ok answer)) start)
+  module _ (answer : Answer) (volume' : Volume) (legal : IsLegal room start given (Ok answer)) (kept_is : kept_by volume' ≡ after (added_by room start given (Ok answer)) start)
       (fits : IsTrue tells → Fits volume' state') (during : IsTrue tells → Adds past past' (EachImage (StandsForSome start (added_by room start given (Ok answer))))) {sink sink' : Output} where
     -- its text was put
     pub answered : Puts sink sink' (text_of answer) → Session room tells (point text source sink start state past) (point behind source' sink' (kept_by volume') state' past') None
@@ -136,3 +145,74 @@ module _ {room : ℕ} {tells : Bool} {text behind : Text} {source source' : Inpu
       moments = λ is. moments_of (added_by room start given (Ok answer)) (during is);
       leaves = λ is. ((fits is).all_synced, all_stand (fits is) (kept_after start (kept_by volume') (added_by room start given (Ok answer)) kept_is));
     }
+
+    -- by what was put of it
+    pub said : (served : Served) → Says (text_of answer) served sink sink' → Session room tells (point text source sink start state past) (point (left_by served behind) source' sink' (kept_by volume') state' past') (ended_by served)
+    said GoesOn says = answered says
+    said (Ends status.SinkFailed) says = cut_off says.count says.puts (answer, says.count, refl)
+    said (Ends status.NoMemory) says = cut_off 0 (subst (λ (o : Output). Puts sink o []) (sym says) (puts_none sink)) (inr (answer, refl))
+    said (Ends status.Done) says = absurd says
+    said (Ends status.Usage) says = absurd says
+    said (Ends status.BadVolume) says = absurd says
+    said (Ends status.Device) says = absurd says
+    said (Ends status.SourceFailed) says = absurd says
+    said (Ends status.BadStream) says = absurd says
+    said (Ends status.Budget) says = absurd says
+
+-- what is put doesn't fail the device or the source
+pub said_device : (text : List ℕ) (served : Served) (sink sink' : Output) (count : ℕ) → Says text served sink sink' → faults_then device_faults (ended_by served) count ≡ count
+said_device text GoesOn sink sink' count says = refl
+said_device text (Ends status.SinkFailed) sink sink' count says = refl
+said_device text (Ends status.NoMemory) sink sink' count says = refl
+said_device text (Ends status.Done) sink sink' count says = absurd says
+said_device text (Ends status.Usage) sink sink' count says = absurd says
+said_device text (Ends status.BadVolume) sink sink' count says = absurd says
+said_device text (Ends status.Device) sink sink' count says = absurd says
+said_device text (Ends status.SourceFailed) sink sink' count says = absurd says
+said_device text (Ends status.BadStream) sink sink' count says = absurd says
+said_device text (Ends status.Budget) sink sink' count says = absurd says
+
+pub said_source : (text : List ℕ) (served : Served) (sink sink' : Output) (count : ℕ) → Says text served sink sink' → faults_then source_faults (ended_by served) count ≡ count
+said_source text GoesOn sink sink' count says = refl
+said_source text (Ends status.SinkFailed) sink sink' count says = refl
+said_source text (Ends status.NoMemory) sink sink' count says = refl
+said_source text (Ends status.Done) sink sink' count says = absurd says
+said_source text (Ends status.Usage) sink sink' count says = absurd says
+said_source text (Ends status.BadVolume) sink sink' count says = absurd says
+said_source text (Ends status.Device) sink sink' count says = absurd says
+said_source text (Ends status.SourceFailed) sink sink' count says = absurd says
+said_source text (Ends status.BadStream) sink sink' count says = absurd says
+said_source text (Ends status.Budget) sink sink' count says = absurd says
+
+-- how a session ends whose next item can't be read
+pub unread_ends : (told : Type 0) (fault : TextFault) (text behind : Text) (source' : Input) (sink : Output) (kept : Kept) (state : State) (past : Past) → (told → ReadsNext (next text) behind (Err fault)) → (told → fault ≡ Source → HoldsNoItem text source')
+    → EndsBy (Some (status_of fault)) told (point no_text source' sink kept state past) text Nothing
+unread_ends told Source text behind source' sink kept state past reads undecided = (refl, λ t. undecided t refl)
+unread_ends told BadStream text behind source' sink kept state past reads undecided = (refl, reads)
+unread_ends told Budget text behind source' sink kept state past reads undecided = (refl, reads)
+unread_ends told OutOfMemory text behind source' sink kept state past reads undecided = inl refl
+
+-- the counts where the next item can't be read
+pub unread_source : (fault : TextFault) (old new : ℕ) → HasTextCause {T = Item} old new (Err fault) → new ≡ source_faults (status_of fault) old
+unread_source Source old new cause = cause
+unread_source BadStream old new cause = cause
+unread_source Budget old new cause = cause
+unread_source OutOfMemory old new cause = cause
+
+pub unread_device : (fault : TextFault) (count : ℕ) → device_faults (status_of fault) count ≡ count
+unread_device Source count = refl
+unread_device BadStream count = refl
+unread_device Budget count = refl
+unread_device OutOfMemory count = refl
+
+pub unread_sink : (fault : TextFault) (count : ℕ) → sink_faults (status_of fault) count ≡ count
+unread_sink Source count = refl
+unread_sink BadStream count = refl
+unread_sink Budget count = refl
+unread_sink OutOfMemory count = refl
+
+-- a sound volume stops only now
+pub stops_now : (P : Result Answer Stopped → Type 0) (r : Result Answer Stopped) → (r ≡ Err Now → P r) → (r ≡ Err Before → ⊥) → OnErr r (P r)
+stops_now P (Ok answer) now before = tt
+stops_now P (Err Now) now before = now refl
+stops_now P (Err Before) now before = absurd (before refl)

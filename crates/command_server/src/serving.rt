@@ -1,5 +1,5 @@
 //! A session over a volume: item after item is read and answered.
-ghost use Rattle.std.specs.Prelude.{◌≡◌, ◌≢◌, ◌<◌, ◌+◌, [], length, false, None, Some, OnOk, OnErr, IsNone, IsTrue};
+ghost use Rattle.std.specs.Prelude.{◌≡◌, ◌≢◌, ◌↔◌, ◌<◌, ◌+◌, [], length, false, None, Some, OnOk, OnErr, IsNone, IsTrue};
 ghost use Rattle.vol_numbers.specs.Cause.{HasCause};
 ghost use Rattle.disk_model.specs.Disk.{EachImage};
 ghost use Rattle.disk_model.specs.Past.{Adds};
@@ -92,13 +92,25 @@ fn serve_item<D: Disk, R: Source, W: Sink>(
     ensures fixed { D.fixed disk.new ≡ D.fixed disk.old }
 {
     let item = match reader.read_command(source) {
-        Ok(Item::Ended) => return Served::Ends(Status::Done),
         Ok(item) => item,
         Err(fault) => return Served::Ends(status_of(fault)),
     };
+    if is_ended(&item) {
+        return Served::Ends(Status::Done);
+    }
     match answer_to(volume, disk, &item) {
         Ok(answer) => say(alloc, sink, answer),
-        Err(Stopped::Now | Stopped::Before) => Served::Ends(Status::Device),
+        Err(_) => Served::Ends(Status::Device),
+    }
+}
+
+/// Whether the item is the end of the session.
+fn is_ended(item: &Item) -> bool
+    ensures { IsTrue result ↔ (item.now ≡ Ended) }
+{
+    match item {
+        Item::Ended => true,
+        Item::Command(_) | Item::Refused(_) => false,
     }
 }
 

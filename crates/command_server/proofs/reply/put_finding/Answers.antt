@@ -1,7 +1,7 @@
 use Rattle.std.proofs.Common.{sym, subst}
 use Rattle.command_server.specs.Putting.{PutsText}
 use Rattle.command_server.specs.Texts.{finding_text}
-use Rattle.command_server.specs.declared.finding.Finding.{Finding}
+use Rattle.log_volume.specs.declared.finding.Finding.{Finding}
 use Rattle.command_server.proofs.reply.put_finding.Goals as goal
 
 pub returns-in-BadLog-clause-text : goal.returns-in-BadLog-clause-text
