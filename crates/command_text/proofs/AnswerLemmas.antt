@@ -1,5 +1,5 @@
 -- The text of an answer tells the answer, whatever follows.
-use Rattle.std.proofs.Common.{◌≡◌, ◌≢◌, ◌∙◌, ◌++◌, ℕ, Option, Some, None, List, [], ◌∷◌, length, get_or, refl, sym, ap, subst, arith, append_assoc}
+use Rattle.std.proofs.Common.{◌≡◌, ◌∙◌, ◌++◌, ℕ, Option, Some, None, List, [], ◌∷◌, get_or, refl, sym, ap, arith, append_assoc}
 use Rattle.std.specs.Prelude.{decimal, codes}
 use Rattle.std.specs.List.{flat_map, AllByRecursion}
 use Rattle.std.proofs.lemmas.List.{append-nil, append_cancel_left}
@@ -11,7 +11,7 @@ use Rattle.tree_model.specs.declared.report.Line.{Line}
 use Rattle.tree_model.specs.declared.report.Report.{Report}
 use Rattle.tree_model.specs.declared.report.Answer.{Answer}
 use Rattle.command_text.specs.Replies.{reply_text, line_kind_text, line_text, point_text, report_text, answer_text}
-use Rattle.command_text.specs.Telling.{IsNumber, IsReply, IsLine, IsReport, IsReportIfAny, IsAnswer, NoneBeginsAnother}
+use Rattle.command_text.specs.Telling.{IsReply, IsLine, IsReport, IsReportIfAny, NoneBeginsAnother}
 use Rattle.command_text.proofs.TellLemmas.{number_tells}
 use Rattle.command_text.proofs.ReplyLemmas.{refusal_first, reply_tells}
 

@@ -1,6 +1,5 @@
 -- The data of a write.
-use Rattle.std.proofs.Common.{◌≡◌, ◌≢◌, ◌∙◌, ◌<◌, ◌≤◌, ◌+◌, ℕ, Bool, true, false, Option, Some, None, Result, Ok, Err, List, length, get_or, take, drop, refl, sym, ap, subst, inl, arith, get_or-drop}
-use Rattle.std.specs.Prelude.{slice_index, ◌==◌}
+use Rattle.std.proofs.Common.{◌≡◌, ◌≢◌, ◌<◌, ◌≤◌, ◌+◌, ℕ, false, Option, Some, None, Ok, Err, List, length, get_or, take, drop, refl, sym, subst, inl, arith}
 use Rattle.std.proofs.lemmas.Bool.{eq-eqb}
 use Rattle.std.proofs.lemmas.Bool.Decides.{nat_tests}
 use Rattle.wire_ends.specs.Ends.{Input}
@@ -12,8 +11,7 @@ use Rattle.command_text.specs.declared.line.Line.TheVariants as line
 use Rattle.tree_model.specs.declared.command.Command.{Command}
 use Rattle.tree_model.specs.declared.refusal.Refusal.{Refusal}
 use Rattle.command_text.specs.Lines.{line_in}
-use Rattle.command_text.specs.Front.{front, write_of, is_newline}
-use Rattle.command_text.specs.Front.Front.{Whole}
+use Rattle.command_text.specs.Front.{write_of, is_newline}
 use Rattle.command_text.specs.Reading.{Reading, Undecided}
 use Rattle.command_text.specs.Filling.{Fills, IsShorter, LineEnds, AsksToWrite, Fails, Reads, Answers, IsWhole}
 use Rattle.command_text.proofs.FrontLemmas.{wrong_unended, whole_written, whole_command, whole_refused}

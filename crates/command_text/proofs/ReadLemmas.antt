@@ -1,5 +1,5 @@
 -- What is read is what comes next.
-use Rattle.std.proofs.Common.{◌≡◌, ◌∙◌, ◌<◌, ◌≤◌, ◌+◌, ◌-◌, ◌++◌, ◌⊎◌, ℕ, Bool, true, false, cond, Option, Some, None, Result, Ok, Err, List, [], ◌∷◌, length, take, drop, refl, sym, ap, subst, ⊎_elim, arith, append_assoc, length-append, length-drop}
+use Rattle.std.proofs.Common.{◌≡◌, ◌∙◌, ◌<◌, ◌+◌, ◌-◌, ◌++◌, ℕ, Bool, true, false, Result, Ok, Err, List, [], ◌∷◌, length, take, drop, refl, sym, ap, subst, ⊎_elim, arith, append_assoc, length-append, length-drop}
 use Rattle.std.specs.Prelude.{IsTrue, nat_le}
 use Rattle.std.proofs.lemmas.Bool.{cond-true, cond-false}
 use Rattle.std.proofs.lemmas.Bool.Decides.{nat_tests}
@@ -11,12 +11,11 @@ use Rattle.command_text.specs.declared.fault.TextFault.{TextFault}
 use Rattle.command_text.specs.declared.fault.TextFault.TheVariants.{Source, BadStream, Budget, OutOfMemory}
 use Rattle.command_text.specs.declared.item.Item.{Item}
 use Rattle.command_text.specs.declared.item.Item.TheVariants as item
-use Rattle.command_text.specs.Front.{Front, front}
-use Rattle.command_text.specs.Front.Front.{Whole, Wrong, Partial}
-use Rattle.command_text.specs.Text.{Text, Next, next, next_from, at_input_end, is_end}
+use Rattle.command_text.specs.Front.{front}
+use Rattle.command_text.specs.Text.{Text, next, next_from, at_input_end, is_end}
 use Rattle.command_text.specs.Text.Next.{Given, Ended, Bad, Spent}
 use Rattle.command_text.specs.Reading.{Reading, unread, ReadsNext, Undecided, Falls, settled}
-use Rattle.command_text.specs.Filling.{Fills, IsWrong, IsWhole, InputEnds, EndsInside, Stopped, GivesItem, EndsBefore, Answers, Reads, ReadsSettled}
+use Rattle.command_text.specs.Filling.{Fills, IsWrong, IsWhole, EndsInside, Stopped, GivesItem, Answers, ReadsSettled}
 
 abbrev text_of : List ℕ → List ℕ → ℕ → Text
 text_of held left budget = record { bytes = held ++ left; budget = length held + budget; is_over = false }

@@ -1,5 +1,5 @@
 -- The text of a reply tells the reply, whatever follows.
-use Rattle.std.proofs.Common.{◌≡◌, ◌≢◌, ◌∙◌, ◌<◌, ◌+◌, ◌-◌, ◌*◌, ◌++◌, ℕ, List, [], ◌∷◌, length, get_or, refl, sym, ap, arith, append_assoc}
+use Rattle.std.proofs.Common.{◌≡◌, ◌≢◌, ◌∙◌, ◌+◌, ◌-◌, ◌*◌, ◌++◌, ℕ, List, [], ◌∷◌, length, get_or, refl, sym, ap, arith, append_assoc}
 use Rattle.std.specs.Prelude.{decimal, codes, ◌==◌, if◌then◌else◌}
 use Rattle.std.specs.List.{flat_map}
 use Rattle.tree_model.specs.declared.refusal.Refusal.{Refusal}
@@ -12,7 +12,7 @@ use Rattle.tree_model.specs.declared.reply.Reply.{Reply}
 use Rattle.tree_model.specs.declared.reply.Reply.TheVariants.{Done, Data, Entries, Stat, Layout, Space, Refused}
 use Rattle.tree_model.specs.Refusal.{number_of}
 use Rattle.command_text.specs.Replies.{kind_text, entry_text, piece_text, refusal_text, reply_text}
-use Rattle.command_text.specs.Telling.{IsNumber, IsEntry, IsPiece, IsRefusal, IsReply}
+use Rattle.command_text.specs.Telling.{IsEntry, IsPiece, IsRefusal, IsReply}
 use Rattle.command_text.proofs.TellLemmas.{number_tells, two_tell, same_bytes, same_items, entry_tells, kinds_tell}
 
 -- ---- refusals

@@ -1,5 +1,5 @@
 -- Texts that tell what they are of, whatever follows.
-use Rattle.std.proofs.Common.{◌≡◌, ◌≢◌, ◌∙◌, ◌<◌, ◌^◌, ◌++◌, ℕ, Bool, true, false, List, [], ◌∷◌, length, All, refl, sym, ap, subst, arith, append_assoc}
+use Rattle.std.proofs.Common.{◌≡◌, ◌≢◌, ◌∙◌, ◌^◌, ◌++◌, ℕ, Bool, true, false, List, [], ◌∷◌, length, All, refl, sym, ap, arith, append_assoc}
 use Rattle.std.proofs.Common.{◌+◌, ◌-◌, get_or}
 use Rattle.std.specs.Prelude.{decimal, codes, not, ◌==◌}
 use Rattle.std.proofs.lemmas.Bool.{agree_below, agree_below_at}
@@ -19,10 +19,8 @@ use Rattle.std.proofs.lemmas.List.{append_cancel_left}
 use Rattle.tree_model.specs.declared.reply.Kind.{Kind}
 use Rattle.tree_model.specs.declared.reply.Kind.TheVariants.{File, Directory}
 use Rattle.tree_model.specs.declared.reply.Entry.{Entry}
-use Rattle.tree_model.specs.declared.reply.Piece.{Piece}
-use Rattle.tree_model.specs.declared.reply.Piece.TheVariants.{Placed, Dirty}
-use Rattle.command_text.specs.Replies.{needs_escape, escaped, kind_text, entry_text, piece_text}
-use Rattle.command_text.specs.Telling.{IsNumber, IsByte, IsEntry, IsPiece}
+use Rattle.command_text.specs.Replies.{needs_escape, escaped, kind_text, entry_text}
+use Rattle.command_text.specs.Telling.{IsNumber, IsByte, IsEntry}
 use Rattle.command_text.proofs.NumberLemmas.{own}
 
 first_passes : (p : ℕ → Bool) (b : ℕ) (bs : List ℕ) → list_all p (b ∷ bs) ≡ true → p b ≡ true

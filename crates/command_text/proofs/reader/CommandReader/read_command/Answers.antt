@@ -1,4 +1,4 @@
-use Rattle.std.proofs.Common.{◌≡◌, ◌∙◌, ap, sym}
+use Rattle.std.proofs.Common.{◌∙◌, ap, sym}
 use Rattle.command_text.specs.Reading.{Reading, unread}
 use Rattle.command_text.proofs.ReadLemmas.{over_ends, settled_next, settled_falls}
 use Rattle.command_text.proofs.reader.CommandReader.read_command.Goals as goal
