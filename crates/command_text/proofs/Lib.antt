@@ -1,3 +1,4 @@
+pub mod NeedLemmas
 pub mod AnswerLemmas
 pub mod ReplyLemmas
 pub mod TellLemmas

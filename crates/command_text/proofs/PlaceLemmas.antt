@@ -59,3 +59,9 @@ found_behind p xs ys i none found =
     absurd (false≢true (sym fails ∙ passes)))
     (λ le. le)
     (cases_lt i (length xs))
+
+-- the first that passes lies in a front that is long enough
+pub found_in_front : (p : ℕ → Bool) (xs ys : List ℕ) (i : ℕ) → position p (xs ++ ys) ≡ Some i → i < length xs → position p xs ≡ Some i
+found_in_front p xs ys i found within =
+    let before : (k : ℕ) → k < i → p (get_or xs k 0) ≡ false = λ k lt. let inside : k < length xs = omega arith in ap p (sym (get_or-append xs ys 0 k inside)) ∙ fails_before p (xs ++ ys) i found k lt in
+    found_at p xs i (position_or_len_is p xs i 0 (omega arith) before (λ _. ap p (sym (get_or-append xs ys 0 i within)) ∙ passes_at p (xs ++ ys) i found)) within

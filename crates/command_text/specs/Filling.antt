@@ -96,6 +96,8 @@ pub record GivesItem (item : Item) (old new : Reading) : Type 0 where
   pub count : ℕ
   pub some : 0 < count
   pub whole : IsWhole old.held item count
+  -- no fewer bytes would have decided it
+  pub needs : (before piece : List ℕ) → old.held ≡ before ++ piece → Undecided before → length before < count
   pub behind : new ≡ record old { held = drop count old.held }
 
 -- the input ends before a line
