@@ -1,6 +1,6 @@
 -- How a reader fills up.
-use Rattle.std.proofs.Common.{◌≡◌, ◌∙◌, ◌+◌, ◌++◌, ◌≤◌, ◌⊎◌, ℕ, List, [], length, refl, sym, ap, subst, inl, inr, arith, append_assoc, length-append}
-use Rattle.std.proofs.Common.{◌<◌, ◌∷◌, Bool, false, Option, Some, None, Result, Ok, Err}
+use Rattle.std.proofs.Common.{◌≡◌, ◌∙◌, ◌+◌, ◌++◌, ℕ, List, [], length, refl, sym, ap, subst, inl, inr, arith, append_assoc, length-append}
+use Rattle.std.proofs.Common.{◌<◌, ◌∷◌, Option, Some, None, Result, Ok, Err}
 use Rattle.std.proofs.Common.{⊎_elim}
 use Rattle.command_text.specs.Front.{is_newline}
 use Rattle.command_text.proofs.PlaceLemmas.{place_of_found}
@@ -9,13 +9,11 @@ use Rattle.std.proofs.lemmas.List.{append-nil}
 use Rattle.command_text.specs.declared.fault.TextFault.{TextFault}
 use Rattle.command_text.specs.declared.item.Item.{Item}
 use Rattle.command_text.specs.declared.item.Item.TheVariants as item
-use Rattle.command_text.specs.Front.{front, write_of}
-use Rattle.command_text.specs.Front.Front.{Whole, Wrong}
 use Rattle.command_text.proofs.FrontLemmas.{front_short, asks_with_more}
 use Rattle.command_text.specs.declared.fault.TextFault.TheVariants.{Source, BadStream, Budget, OutOfMemory}
-use Rattle.wire_ends.specs.Ends.{Input, Takes}
+use Rattle.wire_ends.specs.Ends.{Input}
 use Rattle.command_text.specs.Reading.{Reading, Undecided, LastPiece, TakesNeeded}
-use Rattle.command_text.specs.Filling.{HoldsMore, TakesPiece, Fills, InputEnds, EndsInside, Stopped, Fails, AsksToWrite, IsShorter, Stops, Reads, Answers, LineEnds, GivesItem, IsWrong}
+use Rattle.command_text.specs.Filling.{HoldsMore, TakesPiece, Fills, InputEnds, EndsInside, Stopped, Fails, AsksToWrite, IsShorter, Reads, Answers, IsWrong}
 
 -- where nothing changed, the piece is empty
 pub took_nothing : (old new : Reading) (from to : Input) → HoldsMore old.held new.held from to → new ≡ old → TakesPiece old new from to

@@ -1,5 +1,5 @@
 -- What bytes begin with.
-use Rattle.std.proofs.Common.{◌≡◌, ◌∙◌, ◌<◌, ◌≤◌, ◌+◌, ◌++◌, ℕ, Bool, true, false, cond, Option, Some, None, List, [], length, get_or, take, drop, refl, sym, ap, arith, length-append, length-drop, get_or-drop}
+use Rattle.std.proofs.Common.{◌≡◌, ◌∙◌, ◌<◌, ◌≤◌, ◌+◌, ◌++◌, ℕ, true, false, cond, Option, Some, None, List, length, get_or, take, drop, refl, ap, arith, length-append, length-drop, get_or-drop}
 use Rattle.std.proofs.Math.ListN.{get_or-append}
 use Rattle.std.specs.Prelude.{position, nat_le, slice_index}
 use Rattle.std.proofs.lemmas.Bool.{cond-true, cond-false}
@@ -11,7 +11,7 @@ use Rattle.command_text.specs.declared.item.Item.TheVariants as item
 use Rattle.command_text.specs.declared.line.Line.{Line}
 use Rattle.command_text.specs.declared.line.Line.TheVariants as line
 use Rattle.command_text.specs.Lines.{line_in}
-use Rattle.command_text.specs.Front.{Front, front, front_up_to, front_of_line, front_of_data, write_of, is_newline}
+use Rattle.command_text.specs.Front.{front, front_up_to, front_of_line, front_of_data, write_of, is_newline}
 use Rattle.command_text.specs.Front.Front.{Whole, Wrong, Partial}
 use Rattle.command_text.specs.Filling.{LineEnds, AsksToWrite, IsWrong, IsWhole}
 use Rattle.command_text.proofs.PlaceLemmas.{place_of_found, found_before_more, found_behind}

@@ -1,3 +1,7 @@
+pub mod NeedLemmas
+pub mod AnswerLemmas
+pub mod ReplyLemmas
+pub mod TellLemmas
 pub mod ListPuts
 pub mod EscapeLemmas
 pub mod ReadLemmas

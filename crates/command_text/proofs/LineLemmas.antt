@@ -1,14 +1,14 @@
 -- Lines by their fields.
-use Rattle.std.proofs.Common.{◌≡◌, ◌∙◌, ◌<◌, ◌+◌, ℕ, Bool, true, false, cond, Option, Some, None, List, [], ◌∷◌, length, refl, sym, ap, arith}
+use Rattle.std.proofs.Common.{◌≡◌, ◌∙◌, ◌<◌, ℕ, Bool, true, false, cond, Option, Some, None, List, [], ◌∷◌, length, refl, sym, ap, arith}
 use Rattle.std.specs.Borrow.{Bor}
 use Rattle.std.specs.Prelude.{◌==◌, MatchOption, codes, bytes_eq}
 use Rattle.std.specs.List.{list_all, slice_split}
-use Rattle.std.proofs.lemmas.Bool.{cases_Bool, cond_both, false≢true}
+use Rattle.std.proofs.lemmas.Bool.{cond_both, false≢true}
 use Rattle.std.proofs.lemmas.Bool.Decides.{nat_tests}
 use Rattle.std.proofs.lemmas.List.Splits.{length-slice_split}
 use Rattle.command_text.specs.declared.line.Line.{Line}
 use Rattle.command_text.specs.Numbers.{number_in, length_in}
-use Rattle.command_text.specs.Lines.{line_in, line_of_parts, line_of_fields, has_bytes, bad_command, bare_line, path_verb, path_line, two_line, three_line, read_line, write_line}
+use Rattle.command_text.specs.Lines.{line_in, line_of_parts, has_bytes, bad_command, bare_line, path_verb, path_line, two_line, three_line, read_line, write_line}
 
 -- a text has one part at least
 pub some_part : (p : ℕ → Bool) (text : List ℕ) → (part : List ℕ) × (parts : List (List ℕ)) × (slice_split p text ≡ part ∷ parts)

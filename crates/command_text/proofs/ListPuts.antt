@@ -1,11 +1,11 @@
 -- Texts that are put one after the other.
-use Rattle.std.proofs.Common.{◌≡◌, ◌∙◌, ◌<◌, ◌+◌, ◌++◌, ℕ, List, [], ◌∷◌, length, take, drop, get_or, refl, sym, ap, subst, arith, append_assoc, take-append-drop}
+use Rattle.std.proofs.Common.{◌≡◌, ◌∙◌, ◌<◌, ◌+◌, ◌++◌, ℕ, List, [], ◌∷◌, length, take, drop, get_or, sym, ap, subst, append_assoc, take-append-drop}
 use Rattle.std.specs.Prelude.{Result, Ok, Err, OnOk, OnErr}
 use Rattle.std.specs.List.{flat_map}
 use Rattle.std.proofs.lemmas.Grind.{flat_map-append}
 use Rattle.std.proofs.lemmas.List.{append-nil, take_more, drop_more}
 use Rattle.wire_ends.specs.Ends.{Output, Puts, PutsPart}
-use Rattle.wire_ends.proofs.PutLemmas.{puts_none, puts_both, part_behind, part_of_more}
+use Rattle.wire_ends.proofs.PutLemmas.{puts_both, part_behind, part_of_more}
 use Rattle.command_text.specs.Putting.{PutsText}
 
 -- a text was put, and no call failed

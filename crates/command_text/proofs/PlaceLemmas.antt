@@ -1,12 +1,11 @@
 -- The first byte that passes a test.
-use Rattle.std.proofs.Common.{◌≡◌, ◌∙◌, ◌<◌, ◌≤◌, ◌+◌, ◌-◌, ◌++◌, ℕ, Bool, true, false, cond, ltb, Option, Some, None, List, [], ◌∷◌, length, get_or, take, drop, All, refl, sym, ap, arith, length-append}
+use Rattle.std.proofs.Common.{◌≡◌, ◌∙◌, ◌<◌, ◌≤◌, ◌+◌, ◌++◌, ℕ, Bool, true, false, Some, None, List, [], ◌∷◌, length, get_or, take, drop, sym, ap, arith, length-append}
 use Rattle.std.specs.Prelude.{position}
 use Rattle.std.specs.List.{position_or_len, slice_split}
 use Rattle.std.proofs.Common.{⊎_elim}
 use Rattle.std.proofs.Math.ListN.{get_or-append}
 use Rattle.std.proofs.lemmas.Bool.{cases_lt, false≢true}
 use Rattle.std.proofs.lemmas.Bool.Decides.{nat_tests}
-use Rattle.std.proofs.lemmas.Grind.{common_steps}
 use Rattle.std.proofs.lemmas.List.Elements.{All-from_get_or}
 use Rattle.std.proofs.lemmas.List.Splits.{slice_split_first, slice_split_none}
 use Rattle.std.proofs.lemmas.List.Sums.{position_or_len_is, fails_before_first, passes_at_first}
@@ -60,3 +59,9 @@ found_behind p xs ys i none found =
     absurd (false≢true (sym fails ∙ passes)))
     (λ le. le)
     (cases_lt i (length xs))
+
+-- the first that passes lies in a front that is long enough
+pub found_in_front : (p : ℕ → Bool) (xs ys : List ℕ) (i : ℕ) → position p (xs ++ ys) ≡ Some i → i < length xs → position p xs ≡ Some i
+found_in_front p xs ys i found within =
+    let before : (k : ℕ) → k < i → p (get_or xs k 0) ≡ false = λ k lt. let inside : k < length xs = omega arith in ap p (sym (get_or-append xs ys 0 k inside)) ∙ fails_before p (xs ++ ys) i found k lt in
+    found_at p xs i (position_or_len_is p xs i 0 (omega arith) before (λ _. ap p (sym (get_or-append xs ys 0 i within)) ∙ passes_at p (xs ++ ys) i found)) within

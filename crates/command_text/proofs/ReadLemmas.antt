@@ -1,6 +1,6 @@
 -- What is read is what comes next.
-use Rattle.std.proofs.Common.{◌≡◌, ◌∙◌, ◌<◌, ◌≤◌, ◌+◌, ◌-◌, ◌++◌, ◌⊎◌, ℕ, Bool, true, false, cond, Option, Some, None, Result, Ok, Err, List, [], ◌∷◌, length, take, drop, refl, sym, ap, subst, ⊎_elim, arith, append_assoc, length-append, length-drop}
-use Rattle.std.specs.Prelude.{IsTrue, nat_le}
+use Rattle.std.proofs.Common.{◌≤◌, ◌≡◌, ◌∙◌, ◌<◌, ◌+◌, ◌-◌, ◌++◌, ℕ, Bool, true, false, Result, Ok, Err, List, [], ◌∷◌, length, take, drop, refl, sym, ap, subst, ⊎_elim, arith, append_assoc, length-append, length-drop}
+use Rattle.std.specs.Prelude.{OnOk, IsTrue, nat_le}
 use Rattle.std.proofs.lemmas.Bool.{cond-true, cond-false}
 use Rattle.std.proofs.lemmas.Bool.Decides.{nat_tests}
 use Rattle.std.proofs.lemmas.Grind.{common_steps}
@@ -11,12 +11,11 @@ use Rattle.command_text.specs.declared.fault.TextFault.{TextFault}
 use Rattle.command_text.specs.declared.fault.TextFault.TheVariants.{Source, BadStream, Budget, OutOfMemory}
 use Rattle.command_text.specs.declared.item.Item.{Item}
 use Rattle.command_text.specs.declared.item.Item.TheVariants as item
-use Rattle.command_text.specs.Front.{Front, front}
-use Rattle.command_text.specs.Front.Front.{Whole, Wrong, Partial}
-use Rattle.command_text.specs.Text.{Text, Next, next, next_from, at_input_end, is_end}
+use Rattle.command_text.specs.Front.{front}
+use Rattle.command_text.specs.Text.{Text, next, next_from, at_input_end, is_end}
 use Rattle.command_text.specs.Text.Next.{Given, Ended, Bad, Spent}
-use Rattle.command_text.specs.Reading.{Reading, unread, ReadsNext, Undecided, Falls, settled}
-use Rattle.command_text.specs.Filling.{Fills, IsWrong, IsWhole, InputEnds, EndsInside, Stopped, GivesItem, EndsBefore, Answers, Reads, ReadsSettled}
+use Rattle.command_text.specs.Reading.{LastPiece, Reading, unread, ReadsNext, Undecided, Falls, settled}
+use Rattle.command_text.specs.Filling.{Fills, IsWrong, IsWhole, EndsInside, Stopped, GivesItem, Answers, ReadsSettled}
 
 abbrev text_of : List ℕ → List ℕ → ℕ → Text
 text_of held left budget = record { bytes = held ++ left; budget = length held + budget; is_over = false }
@@ -134,3 +133,27 @@ settled_falls old new from to (Ok (item.Refused refusal)) reads =
     subst (λ (r : Reading). length r.held + r.budget < length old.held + old.budget) (sym reads.settled_after) (item_falls old reads.reads.full reads.before from to (item.Refused refusal) reads.reads.fills reads.reads.answers)
 settled_falls old new from to (Ok item.Ended) reads = tt
 settled_falls old new from to (Err fault) reads = tt
+
+-- after an item less than a piece is held
+item_holds : (old full before : Reading) (from to : Input) (item : Item) → Fills Undecided old full from to → GivesItem item full before → length old.held ≤ 4096 → length before.held ≤ 4096
+item_holds old full before from to item fills gives few =
+    let held = ap (λ (r : Reading). length r.held) gives.behind ∙ length-drop gives.count full.held in
+    ⊎_elim
+    (λ (none : fills.taken ≡ []). omega (arith, ap length fills.held, length-append old.held fills.taken, ap length none))
+    (λ (last : LastPiece Undecided old.held fills.taken).
+      let parts : full.held ≡ (old.held ++ last.before) ++ last.piece = fills.held ∙ ap (λ (l : List ℕ). old.held ++ l) last.parts ∙ sym (append_assoc old.held last.before last.piece) in
+      let needed = gives.needs (old.held ++ last.before) last.piece parts last.needed in
+      let at_most = last.at_most in
+      omega (arith, ap length parts, length-append (old.held ++ last.before) last.piece))
+    fills.needed
+
+pub settled_holds : (old new : Reading) (from to : Input) (result : Result Item TextFault) → ReadsSettled old new from to result → length old.held ≤ 4096 → OnOk result (length new.held ≤ 4096)
+settled_holds old new from to (Ok (item.Command command)) reads few =
+    subst (λ (r : Reading). length r.held ≤ 4096) (sym reads.settled_after) (item_holds old reads.reads.full reads.before from to (item.Command command) reads.reads.fills reads.reads.answers few)
+settled_holds old new from to (Ok (item.Refused refusal)) reads few =
+    subst (λ (r : Reading). length r.held ≤ 4096) (sym reads.settled_after) (item_holds old reads.reads.full reads.before from to (item.Refused refusal) reads.reads.fills reads.reads.answers few)
+settled_holds old new from to (Ok item.Ended) reads few =
+    let none = ap length reads.reads.answers.nothing in
+    let held = ap (λ (r : Reading). length r.held) (reads.settled_after ∙ ap (λ (r : Reading). settled r (Ok item.Ended)) reads.reads.answers.same) in
+    omega arith
+settled_holds old new from to (Err fault) reads few = tt

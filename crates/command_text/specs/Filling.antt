@@ -1,5 +1,5 @@
 -- How a reader fills up, and when it stops.
-use Rattle.std.specs.Prelude.{◌≡◌, ◌+◌, ◌<◌, ◌≤◌, ◌++◌, ◌⊎◌, ℕ, Bool, List, [], length, take, drop, position, Option, Some, IsTrue, Result, Ok, Err}
+use Rattle.std.specs.Prelude.{◌≡◌, ◌+◌, ◌<◌, ◌≤◌, ◌++◌, ◌⊎◌, ℕ, List, [], length, take, drop, position, Option, Some, IsTrue, Result, Ok, Err}
 use Rattle.wire_ends.specs.Ends.{Input, Takes}
 use Rattle.command_text.specs.declared.item.Item.{Item}
 use Rattle.command_text.specs.declared.item.Item.TheVariants as item
@@ -9,8 +9,8 @@ use Rattle.command_text.specs.declared.line.Line.TheVariants as line
 use Rattle.command_text.specs.declared.line_end.LineEnd.{LineEnd}
 use Rattle.command_text.specs.declared.line_end.LineEnd.TheVariants.{At, TooLong, Missing}
 use Rattle.command_text.specs.Lines.{line_in}
-use Rattle.command_text.specs.Front.{Front, front, is_newline}
-use Rattle.command_text.specs.Front.Front.{Whole, Wrong, Partial}
+use Rattle.command_text.specs.Front.{front, is_newline}
+use Rattle.command_text.specs.Front.Front.{Whole, Wrong}
 use Rattle.command_text.specs.Reading.{Reading, Undecided, TakesNeeded, settled}
 
 -- a piece was taken behind the bytes that were held
@@ -96,6 +96,8 @@ pub record GivesItem (item : Item) (old new : Reading) : Type 0 where
   pub count : ℕ
   pub some : 0 < count
   pub whole : IsWhole old.held item count
+  -- no fewer bytes would have decided it
+  pub needs : (before piece : List ℕ) → old.held ≡ before ++ piece → Undecided before → length before < count
   pub behind : new ≡ record old { held = drop count old.held }
 
 -- the input ends before a line

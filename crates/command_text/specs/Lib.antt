@@ -7,4 +7,5 @@ pub mod Putting
 pub mod Reading
 pub mod Replies
 pub mod Spelling
+pub mod Telling
 pub mod Text

@@ -1,5 +1,5 @@
 -- Paths as lines write them.
-use Rattle.std.specs.Prelude.{ℕ, ◌==◌, ◌&&◌, not, nat_le, if◌then◌else◌, Bool, false, List, [], ◌∷◌, length, take, drop, map, codes, bytes_eq, Option, Some, None}
+use Rattle.std.specs.Prelude.{ℕ, ◌==◌, ◌&&◌, not, nat_le, if◌then◌else◌, Bool, List, [], length, take, drop, map, codes, bytes_eq, Option, Some, None}
 use Rattle.std.specs.List.{list_all, slice_split}
 use Rattle.percent_encoding.specs.Percent.{percent_decode}
 use Rattle.tree_model.specs.Path.{path_length}

@@ -6,7 +6,7 @@ use Rattle.command_text.specs.declared.item.Item.{Item}
 use Rattle.command_text.specs.declared.item.Item.TheVariants as item
 use Rattle.command_text.specs.declared.fault.TextFault.{TextFault}
 use Rattle.command_text.specs.declared.fault.TextFault.TheVariants.{Source, BadStream, Budget, OutOfMemory}
-use Rattle.command_text.specs.Front.{Front, front}
+use Rattle.command_text.specs.Front.{front}
 use Rattle.command_text.specs.Front.Front.{Partial}
 use Rattle.command_text.specs.Text.{Text, Next, is_end}
 use Rattle.command_text.specs.Text.Next.{Given, Ended, Bad, Spent}

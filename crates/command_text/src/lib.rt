@@ -7,6 +7,7 @@ mod escape;
 mod fault;
 mod held;
 mod item;
+mod laws;
 mod line;
 mod line_end;
 mod number;
@@ -22,6 +23,7 @@ mod verb;
 
 pub use fault::{PutFault, TextFault};
 pub use item::Item;
+pub use laws::none_begins_another;
 pub use print::print_command;
 pub use reader::CommandReader;
 pub use replies::write_reply;

@@ -67,6 +67,7 @@ impl CommandReader {
             ReadsNext (next (unread self.old (R.seen source.old))) (unread self.new (R.seen source.new)) result }
         ensures takes { TakesForNext self.old self.new (R.seen source.old) (R.seen source.new) }
         ensures falls { Falls (length self.old.held + self.old.budget) (length self.new.held + self.new.budget) result }
+        ensures holds { length self.old.held ≤ 4096 → OnOk result (length self.new.held ≤ 4096) }
         ensures ended { result ≡ Ok Ended → self.new.is_over ≡ true }
         ensures over { self.old.fault ≡ None → self.old.is_over ≡ true → (result ≡ Ok Ended) × (self.new ≡ self.old) × (R.seen source.new ≡ R.seen source.old) }
         ensures failed { IfErr result (λ fault. self.new.fault ≡ Some fault) }

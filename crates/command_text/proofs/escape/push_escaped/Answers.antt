@@ -1,4 +1,4 @@
-use Rattle.std.proofs.Common.{◌≡◌, ◌∙◌, ◌++◌, ℕ, List, ap}
+use Rattle.std.proofs.Common.{◌∙◌}
 use Rattle.command_text.proofs.EscapeLemmas.{encode_is}
 use Rattle.command_text.proofs.escape.push_escaped.Goals as goal
 

@@ -1,7 +1,4 @@
-use Rattle.std.proofs.Common.{◌≡◌, ◌∙◌, ◌<◌, ℕ, List, [], ◌∷◌, length, sym, ap, subst, arith}
-use Rattle.std.specs.Prelude.{◌==◌, IfOk}
-use Rattle.std.specs.List.{slice_split}
-use Rattle.command_text.specs.Lines.{line_of_parts}
+use Rattle.std.proofs.Common.{◌∙◌, sym}
 use Rattle.command_text.proofs.LineLemmas.{one_field, line_of_split}
 use Rattle.command_text.proofs.line.line_in.Goals as goal
 

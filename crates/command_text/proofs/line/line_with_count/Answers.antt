@@ -1,6 +1,5 @@
-use Rattle.std.proofs.Common.{◌≡◌, ◌∙◌, ◌<◌, ℕ, List, [], ◌∷◌, length, sym, ap, subst, arith}
-use Rattle.std.specs.Prelude.{◌==◌, IfOk}
-use Rattle.std.specs.List.{slice_split}
+use Rattle.std.proofs.Common.{◌∙◌, ℕ, List, [], ◌∷◌, sym, ap}
+use Rattle.std.specs.Prelude.{◌==◌}
 use Rattle.command_text.specs.Lines.{line_of_parts}
 use Rattle.command_text.proofs.LineLemmas.{some_part, too_many, four_fields}
 use Rattle.command_text.proofs.line.line_with_count.Goals as goal

@@ -1,6 +1,4 @@
-use Rattle.std.proofs.Common.{◌≡◌, ◌∙◌, ◌<◌, ℕ, List, [], ◌∷◌, length, sym, ap, subst, arith}
-use Rattle.std.specs.Prelude.{◌==◌, IfOk}
-use Rattle.std.specs.List.{slice_split}
+use Rattle.std.proofs.Common.{◌∙◌, ℕ, List, ◌∷◌, sym, ap}
 use Rattle.command_text.specs.Lines.{line_of_parts}
 use Rattle.command_text.proofs.LineLemmas.{two_fields, empty_path_cut, no_bytes, some_bytes}
 use Rattle.command_text.proofs.line.line_with_path.Goals as goal

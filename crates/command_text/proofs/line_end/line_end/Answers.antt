@@ -1,4 +1,4 @@
-use Rattle.std.proofs.Common.{◌∙◌, sym, ap}
+use Rattle.std.proofs.Common.{sym}
 use Rattle.command_text.proofs.FrontLemmas.{front_missing, wrong_too_long, wrong_ends_late}
 use Rattle.command_text.proofs.line_end.line_end.Goals as goal
 

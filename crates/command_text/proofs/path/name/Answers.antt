@@ -1,6 +1,5 @@
-use Rattle.std.proofs.Common.{◌≡◌, ◌∙◌, ◌++◌, ℕ, List, [], sym, ap, subst}
+use Rattle.std.proofs.Common.{◌≡◌, ◌∙◌, ℕ, List, subst}
 use Rattle.std.specs.Prelude.{if◌then◌else◌, Some, None, Option}
-use Rattle.std.specs.Result.{result_ok}
 use Rattle.percent_encoding.specs.Percent.{percent_decode}
 use Rattle.command_text.specs.Paths.{is_name}
 use Rattle.command_text.proofs.NameLemmas.{made_name}

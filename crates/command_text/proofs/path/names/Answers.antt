@@ -1,8 +1,7 @@
-use Rattle.std.proofs.Common.{◌≡◌, ◌∙◌, ◌≤◌, ◌+◌, ◌++◌, ℕ, true, Some, List, [], ◌∷◌, length, sym, ap, subst, append_assoc, length-append, arith}
+use Rattle.std.proofs.Common.{◌≡◌, ◌∙◌, ◌++◌, ℕ, List, [], ◌∷◌, sym, ap, append_assoc, length-append, arith}
 use Rattle.percent_encoding.specs.Percent.{percent_decode}
-use Rattle.command_text.specs.Paths.{names_in, few_names, is_name}
+use Rattle.command_text.specs.Paths.{few_names, is_name}
 use Rattle.command_text.proofs.PathLemmas.{names_left, names_step, name_made, names_more, few_pass, few_fails, name_not_made}
-use Rattle.command_text.proofs.path.names.Invariants.{NamesSoFar}
 use Rattle.command_text.proofs.path.names.Goals as goal
 use Rattle.command_text.proofs.path.names.Goals.{in_default-2-via-in-Some-2+else-len-lt32, in_default-2-via-in_default-2}
 

@@ -1,4 +1,4 @@
-use Rattle.std.proofs.Common.{◌≡◌, ◌++◌, List, ℕ, subst}
+use Rattle.std.proofs.Common.{◌++◌, List, ℕ, subst}
 use Rattle.std.specs.Prelude.{codes}
 use Rattle.wire_ends.specs.Ends.{Puts, PutsPart}
 use Rattle.wire_ends.proofs.PutLemmas.{part_of_more}

@@ -1,8 +1,5 @@
-use Rattle.std.proofs.Common.{◌++◌, List, length}
-use Rattle.std.specs.Prelude.{codes}
-use Rattle.std.specs.List.{flat_map}
 use Rattle.wire_ends.proofs.PutLemmas.{part_of_more}
-use Rattle.command_text.specs.Replies.{counted_text, piece_text, report_text, reply_text}
+use Rattle.command_text.specs.Replies.{report_text, reply_text}
 use Rattle.command_text.proofs.ListPuts.{puts_text_both}
 use Rattle.command_text.proofs.replies.put_answer.Goals as goal
 

@@ -1,4 +1,4 @@
-use Rattle.std.proofs.Common.{◌≡◌, ◌<◌, ℕ, List, length, arith}
+use Rattle.std.proofs.Common.{arith}
 use Rattle.command_text.specs.Replies.{line_text}
 use Rattle.command_text.proofs.ListPuts.{part_around}
 use Rattle.command_text.proofs.replies.put_lines.Goals as goal

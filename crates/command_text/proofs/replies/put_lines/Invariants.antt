@@ -1,6 +1,5 @@
-use Rattle.std.proofs.Common.{◌≡◌, take}
+use Rattle.std.proofs.Common.{take}
 use Rattle.std.specs.List.{flat_map}
-use Rattle.wire_ends.specs.Ends.{Puts}
 use Rattle.command_text.specs.Replies.{line_text}
 use Rattle.command_text.proofs.ListPuts.{PutSoFar}
 use Rattle.command_text.proofs.replies.put_lines.Given as goal

@@ -1,4 +1,4 @@
-use Rattle.std.proofs.Common.{◌++◌, ap, sym, subst, List, ℕ}
+use Rattle.std.proofs.Common.{ap, sym, subst, List, ℕ}
 use Rattle.std.specs.List.{flat_map}
 use Rattle.tree_model.specs.declared.report.Line.{Line}
 use Rattle.wire_ends.specs.Ends.{PutsPart}

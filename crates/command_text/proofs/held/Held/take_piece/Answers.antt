@@ -1,7 +1,5 @@
-use Rattle.std.proofs.Common.{◌≡◌, ◌∙◌, ◌+◌, ◌-◌, ◌++◌, ◌≤◌, ℕ, List, drop, take, length, ap, sym, replicate, length-drop, arith}
-use Rattle.std.specs.Prelude.{if◌then◌else◌, vec_len}
-use Rattle.std.specs.Result.{is_ok}
-use Rattle.command_text.specs.Filling.{HoldsMore}
+use Rattle.std.proofs.Common.{◌≡◌, ◌∙◌, ◌+◌, ◌-◌, ◌++◌, ◌≤◌, ℕ, List, drop, take, length, ap, replicate, length-drop, arith}
+use Rattle.std.specs.Prelude.{vec_len}
 use Rattle.command_text.proofs.HeldLemmas.{written_behind, old_front}
 use Rattle.command_text.proofs.held.Held.take_piece.Goals as goal
 

@@ -1,4 +1,3 @@
-use Rattle.std.proofs.Common.{ℕ}
 use Rattle.command_text.specs.Reading.{Undecided}
 use Rattle.command_text.specs.Filling.{Fills}
 use Rattle.std.proofs.Common.{◌≡◌}

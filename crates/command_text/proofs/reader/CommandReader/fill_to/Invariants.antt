@@ -1,4 +1,4 @@
-use Rattle.std.proofs.Common.{ℕ, ◌≡◌}
+use Rattle.std.proofs.Common.{◌≡◌}
 use Rattle.command_text.specs.Filling.{Fills, IsShorter}
 use Rattle.command_text.proofs.FillLemmas.{FilledSoFar}
 use Rattle.command_text.proofs.reader.CommandReader.fill_to.Given as goal

@@ -1,5 +1,4 @@
-use Rattle.std.proofs.Common.{◌≡◌, ◌≢◌, ◌∙◌, ◌+◌, ◌-◌, ℕ, List, length, get_or, take, drop, ap, sym, subst, arith}
-use Rattle.std.proofs.lemmas.Grind.{common_steps}
+use Rattle.std.proofs.Common.{◌≡◌, ◌∙◌, ◌+◌, ◌-◌, ℕ, List, get_or, take, drop, ap, sym, subst, arith}
 use Rattle.command_text.specs.Reading.{Reading}
 use Rattle.command_text.specs.Filling.{AsksToWrite}
 use Rattle.command_text.specs.Front.{write_of}

@@ -1,6 +1,4 @@
-use Rattle.std.proofs.Common.{◌≡◌, ◌∙◌, ◌+◌, ◌-◌, ℕ, List, length, take, drop, ap, sym, subst, arith}
-use Rattle.command_text.specs.declared.line.Line.{Line}
-use Rattle.command_text.specs.declared.line.Line.TheVariants as line
+use Rattle.std.proofs.Common.{◌≡◌, ◌∙◌, ◌+◌, ℕ, List, take, drop, ap, sym}
 use Rattle.command_text.specs.Lines.{line_in}
 use Rattle.command_text.specs.Reading.{Reading}
 use Rattle.command_text.proofs.DataLemmas.{command_read, refused_read}

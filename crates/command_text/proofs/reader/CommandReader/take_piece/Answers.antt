@@ -1,6 +1,6 @@
-use Rattle.std.proofs.Common.{◌≡◌, ◌∙◌, ℕ, List, ap, sym, subst}
+use Rattle.std.proofs.Common.{◌≡◌, ℕ, List, ap, subst}
 use Rattle.command_text.specs.Reading.{Reading}
-use Rattle.command_text.specs.Filling.{HoldsMore, TakesPiece}
+use Rattle.command_text.specs.Filling.{TakesPiece}
 use Rattle.command_text.proofs.FillLemmas.{took_nothing}
 use Rattle.command_text.proofs.reader.CommandReader.take_piece.Goals as goal
 
