@@ -29,27 +29,29 @@ session() {
     printf '(status %s)\n' "$status"
 }
 
-session 'create /a' 'create /a' 'mkdir /d' end
-printf '\nA second session finds the files of the first:\n'
-session 'create /a' 'create /b'
-printf '\nThe record of "create /b" in the log:\n'
-od -A d -t x1 -j $((8 * 4096)) -N 32 v
+session 'mkdir /My%20Photos' 'create /My%20Photos/note' 'write /My%20Photos/note 0 6' 'hello!' 'read /My%20Photos/note 0 100' \
+    'create /My%20Photos/note' 'chmod /My%20Photos' end
+printf '\nA second session finds what the first one was told is done:\n'
+session 'list /' 'list /My%20Photos' 'rename /My%20Photos/note /note' 'stat /note' 'remove /My%20Photos' 'read /note 0 5'
+printf '\nThe record of the write in the log:\n'
+od -A d -t x1z -j $((9 * 4096)) -N 48 v
 printf '\nAn image that is no volume:\n'
 head -c 40960 /dev/zero >zeros
 idedup serve zeros </dev/null
 
-printf '\nA server that is ended without warning in the middle of 2,000 creates:\n'
+printf '\nA server that is ended without warning in the middle of 1,000 new files, each with a line in it:\n'
 idedup format w --blocks 8192 --log 4096
-for i in $(seq 2000); do echo "create /file$i"; done >creates
-"$top/idedup" serve w <creates >answers &
+for i in $(seq 1000); do printf 'create /file%s\nwrite /file%s 0 5\nhello\n' "$i" "$i"; done >input
+"$top/idedup" serve w <input >answers &
 server=$!
 until [ "$(wc -l <answers)" -ge 100 ]; do sleep 0.01; done
 kill -9 "$server"
 wait "$server" 2>/dev/null || true
 acknowledged=$(grep -c '^ok$' answers)
-"$top/idedup" serve w <creates >again
-there=$(grep -c '^refused 6 Exists$' again)
-printf '%s creates were acknowledged, %s files were there in the next session\n' "$acknowledged" "$there"
-# What was acknowledged comes first in the stream: the next session refuses each of them as there.
-head -n "$acknowledged" again | grep -qv '^refused 6 Exists$' && { echo 'a file was lost'; exit 1; }
-[ "$there" -le $((acknowledged + 1)) ] || { echo 'more was there than was accepted'; exit 1; }
+for i in $(seq 1000); do echo "read /file$i 0 5"; done | "$top/idedup" serve w >again
+created=$(grep -c '^data' again || true)
+written=$(grep -c '^hello$' again || true)
+printf '%s commands were acknowledged; %s files were there in the next session, %s of them written\n' "$acknowledged" "$created" "$written"
+# The commands come in turn, a file and its bytes: so many of them are there, and at most one that wasn't acknowledged.
+[ "$((created + written))" -ge "$acknowledged" ] || { echo 'a command was lost'; exit 1; }
+[ "$((created + written))" -le $((acknowledged + 1)) ] || { echo 'more was there than was accepted'; exit 1; }
