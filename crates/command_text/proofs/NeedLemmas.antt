@@ -1,14 +1,13 @@
 -- An item isn't decided before its last byte.
-use Rattle.std.proofs.Common.{◌≡◌, ◌∙◌, ◌<◌, ◌≤◌, ◌+◌, ◌++◌, ℕ, Bool, true, false, Option, Some, List, length, get_or, take, drop, refl, sym, ap, subst, ⊎_elim, arith}
+use Rattle.std.proofs.Common.{◌≡◌, ◌∙◌, ◌<◌, ◌≤◌, ◌+◌, ◌++◌, ℕ, true, false, Option, List, length, take, drop, sym, ap, ⊎_elim, arith}
 use Rattle.std.specs.Prelude.{position, slice_index}
 use Rattle.std.proofs.lemmas.Bool.{cases_lt, cases_Bool}
 use Rattle.tree_model.specs.declared.command.Command.{Command}
 use Rattle.tree_model.specs.declared.refusal.Refusal.{Refusal}
 use Rattle.command_text.specs.declared.item.Item.{Item}
-use Rattle.command_text.specs.declared.line.Line.{Line}
 use Rattle.command_text.specs.declared.line.Line.TheVariants as line
 use Rattle.command_text.specs.Lines.{line_in}
-use Rattle.command_text.specs.Front.{Front, front, is_newline}
+use Rattle.command_text.specs.Front.{is_newline}
 use Rattle.command_text.specs.Front.Front.{Whole, Wrong, Partial}
 use Rattle.command_text.specs.Reading.{Undecided}
 use Rattle.command_text.specs.Filling.{LineEnds, AsksToWrite}
@@ -53,8 +52,8 @@ pub write_needs : (bytes : List ℕ) (i : ℕ) (path : Option (List (List ℕ)))
 write_needs bytes i path offset count asks before piece parts undecided =
     ⊎_elim
     (λ (lt : i + 1 + count < length before).
-      let within : i < length before = omega arith in
-      let front_asks : AsksToWrite before i path offset count = record { ends = ends_in_front bytes before piece i parts asks.ends within; says = line_in_front bytes before piece i parts asks.ends within ∙ asks.says } in
-      absurd (written_decides before i path offset count front_asks (omega arith) undecided))
+    let within : i < length before = omega arith in
+    let front_asks : AsksToWrite before i path offset count = record { ends = ends_in_front bytes before piece i parts asks.ends within; says = line_in_front bytes before piece i parts asks.ends within ∙ asks.says } in
+    absurd (written_decides before i path offset count front_asks (omega arith) undecided))
     (λ (ge : length before ≤ i + 1 + count). omega arith)
     (cases_lt (i + 1 + count) (length before))

@@ -141,10 +141,10 @@ item_holds old full before from to item fills gives few =
     ⊎_elim
     (λ (none : fills.taken ≡ []). omega (arith, ap length fills.held, length-append old.held fills.taken, ap length none))
     (λ (last : LastPiece Undecided old.held fills.taken).
-      let parts : full.held ≡ (old.held ++ last.before) ++ last.piece = fills.held ∙ ap (λ (l : List ℕ). old.held ++ l) last.parts ∙ sym (append_assoc old.held last.before last.piece) in
-      let needed = gives.needs (old.held ++ last.before) last.piece parts last.needed in
-      let at_most = last.at_most in
-      omega (arith, ap length parts, length-append (old.held ++ last.before) last.piece))
+    let parts : full.held ≡ (old.held ++ last.before) ++ last.piece = fills.held ∙ ap (λ (l : List ℕ). old.held ++ l) last.parts ∙ sym (append_assoc old.held last.before last.piece) in
+    let needed = gives.needs (old.held ++ last.before) last.piece parts last.needed in
+    let at_most = last.at_most in
+    omega (arith, ap length parts, length-append (old.held ++ last.before) last.piece))
     fills.needed
 
 pub settled_holds : (old new : Reading) (from to : Input) (result : Result Item TextFault) → ReadsSettled old new from to result → length old.held ≤ 4096 → OnOk result (length new.held ≤ 4096)
