@@ -32,9 +32,12 @@ at_least_acknowledged : (room : ℕ) (start : Kept) (items : List Item) (one two
 at_least_acknowledged room start [] one two run = omega arith
 at_least_acknowledged room start (i ∷ items) [] two run = omega arith
 at_least_acknowledged room start (i ∷ items) (o ∷ one) two run =
-    omega (arith, length-append (added_by room start i o) (all_added room (after (added_by room start i o) start) items one),
-    length-append (added_by room start i o) (all_added room (after (added_by room start i o) start) items (one ++ two)),
-    at_least_acknowledged room (after (added_by room start i o) start) items one two run.1)
+    omega (
+      arith,
+      length-append (added_by room start i o) (all_added room (after (added_by room start i o) start) items one),
+      length-append (added_by room start i o) (all_added room (after (added_by room start i o) start) items (one ++ two)),
+      at_least_acknowledged room (after (added_by room start i o) start) items one two run.1,
+    )
 
 pub acknowledged_stay : AcknowledgedStay
 acknowledged_stay room start items answers last state ended image kept is stands =

@@ -11,10 +11,10 @@ ghost use Rattle.command_server.specs.Run.{PutsBy, PutsFor, IsServe, IfServe, Is
 ghost use Rattle.command_server.specs.Serves.{Serves, ends_of};
 ghost use Rattle.command_server.specs.declared.status.Status.TheVariants.{Done, Usage, Device, SinkFailed};
 
+use crate::Status;
 use crate::opening::serve_image;
 use crate::reply::{put_formatted, put_usage};
 use crate::words::{Request, read_words};
-use crate::Status;
 use disk_model::{DiskFault, Media, OpenFault};
 use log_volume::format;
 use std::alloc::Global;

@@ -127,11 +127,7 @@ fn status_of(fault: TextFault) -> Status
 }
 
 /// The answer to an item, where the volume doesn't stop at it.
-fn answer_to<D: Disk>(
-    volume: &mut LogVolume,
-    disk: &mut D,
-    item: &Item,
-) -> Result<Answer, Stopped>
+fn answer_to<D: Disk>(volume: &mut LogVolume, disk: &mut D, item: &Item) -> Result<Answer, Stopped>
     requires some { item.now ≢ Ended }
     requires sound { volume.old.is_failed ≡ false }
     requires size { volume.old.root.layout.blocks ≡ (D.fixed disk.old).size }

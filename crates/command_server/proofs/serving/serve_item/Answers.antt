@@ -31,9 +31,11 @@ returns-in-Err-clause-session g c =
 
 pub returns-then-is_ended-clause-session : goal.returns-then-is_ended-clause-session
 returns-then-is_ended-clause-session g c =
-    nothing_read c.read_command.ensures.takes.takes.told c.requires.fits
-    (refl, λ told. subst (λ (i : Item). ReadsNext (next (unread c.args.reader.now (g.R.Source.seen c.args.source.now))) (unread c.read_command.new.self (g.R.Source.seen c.read_command.new.source)) (Ok i))
-    (c.is_ended.ensures.0 c.if-is_ended.true) (c.in-Ok.ensures.reads c.requires.no_fault told))
+    nothing_read c.read_command.ensures.takes.takes.told c.requires.fits (
+      refl,
+      λ told. subst (λ (i : Item). ReadsNext (next (unread c.args.reader.now (g.R.Source.seen c.args.source.now))) (unread c.read_command.new.self (g.R.Source.seen c.read_command.new.source)) (Ok i))
+          (c.is_ended.ensures.0 c.if-is_ended.true) (c.in-Ok.ensures.reads c.requires.no_fault told),
+    )
 
 pub returns-in-Ok-answer_to-clause-session : goal.returns-in-Ok-answer_to-clause-session
 returns-in-Ok-answer_to-clause-session g c =
