@@ -1,9 +1,9 @@
 -- What opening and mounting an image makes of the media, and of the session that follows.
-use Rattle.std.proofs.Common.{◌≡◌, ◌⊎◌, inl, inr, ⊎_elim, ℕ, Bool, true, false, List, [], Option, Some, None, IsTrue, refl, sym, ◌∙◌, ap, subst}
+use Rattle.std.proofs.Common.{◌≡◌, inl, inr, ⊎_elim, ℕ, Bool, true, false, List, [], Option, Some, None, IsTrue, refl, sym, ◌∙◌, ap, subst}
 use Rattle.std.specs.Prelude.{if◌then◌else◌, IfSome, IsSomeAnd}
 use Rattle.vol_numbers.specs.declared.block.Block.{Block}
 use Rattle.disk_model.specs.Disk.{State, IsImage, DuringSync, synced}
-use Rattle.disk_model.specs.Media.{Fixed, image_named}
+use Rattle.disk_model.specs.Media.{image_named}
 use Rattle.disk_model.specs.Past.{Past, Adds}
 use Rattle.disk_model.proofs.Moments.{adds_then, adds_weaker, image_unsynced}
 use Rattle.root_switch.specs.Current.{root_of_image}

@@ -1,5 +1,5 @@
 -- Two sessions, one after the other, are one.
-use Rattle.std.proofs.Common.{◌≡◌, ◌⊎◌, inl, inr, ⊎_elim, ℕ, ◌+◌, ◌≤◌, Bool, List, [], ◌∷◌, ◌++◌, length, take, map, Option, Some, None, Ok, IsTrue, refl, sym, ◌∙◌, ap, subst, arith, append_assoc, length-append}
+use Rattle.std.proofs.Common.{◌≡◌, inl, inr, ⊎_elim, ℕ, ◌+◌, ◌≤◌, Bool, List, [], ◌∷◌, ◌++◌, length, take, map, Option, Some, None, Ok, IsTrue, refl, sym, ◌∙◌, ap, subst, arith, append_assoc, length-append}
 use Rattle.std.proofs.lemmas.List.{append-nil, map-append, take-append-le}
 use Rattle.std.proofs.lemmas.List.Concat.{flat_map-append}
 use Rattle.std.proofs.Math.Seq.{take-append-add}
@@ -7,7 +7,7 @@ use Rattle.vol_numbers.specs.declared.block.Block.{Block}
 use Rattle.disk_model.specs.Disk.{State, EachImage}
 use Rattle.disk_model.specs.Past.{Adds}
 use Rattle.disk_model.proofs.Moments.{adds_then, adds_weaker}
-use Rattle.wire_ends.specs.Ends.{Output, Puts}
+use Rattle.wire_ends.specs.Ends.{Puts}
 use Rattle.wire_ends.proofs.PutLemmas.{puts_both}
 use Rattle.tree_model.specs.declared.command.Command.{Command}
 use Rattle.log_volume.specs.Image.{Stands}

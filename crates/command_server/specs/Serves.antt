@@ -1,5 +1,5 @@
 -- What serving an image does.
-use Rattle.std.specs.Prelude.{◌≡◌, ◌⊎◌, ◌<◌, ℕ, Bool, List, [], length, Option, Some, IsTrue, IfSome, IsSomeAnd}
+use Rattle.std.specs.Prelude.{◌≡◌, ◌⊎◌, ℕ, Bool, List, Option, Some, IsTrue, IfSome, IsSomeAnd}
 use Rattle.vol_numbers.specs.declared.block.Block.{Block}
 use Rattle.disk_model.specs.Disk.{State, IsImage}
 use Rattle.disk_model.specs.Media.{Fixed, image_named}

@@ -1,5 +1,5 @@
 -- What a session does. The log has so many blocks.
-use Rattle.std.specs.Prelude.{◌≡◌, ◌≢◌, ◌⊎◌, ◌≤◌, ◌++◌, ℕ, Bool, List, [], ◌∷◌, length, take, map, Option, Some, None, Result, Ok, Err, IsTrue, IsNone}
+use Rattle.std.specs.Prelude.{◌≡◌, ◌≢◌, ◌⊎◌, ◌≤◌, ◌++◌, ℕ, Bool, List, [], ◌∷◌, length, take, map, Option, Some, None, Ok, Err, IsTrue, IsNone}
 use Rattle.vol_numbers.specs.declared.block.Block.{Block}
 use Rattle.disk_model.specs.Disk.{State, IsImage, EachImage}
 use Rattle.disk_model.specs.Past.{Past, Adds}

@@ -1,4 +1,4 @@
-use Rattle.std.proofs.Common.{◌≡◌, ◌∙◌, sym, subst, Result}
+use Rattle.std.proofs.Common.{◌∙◌, sym, subst, Result}
 use Rattle.std.specs.Prelude.{IsTrue, OnErr}
 use Rattle.std.proofs.lemmas.Bool.{false≢true}
 use Rattle.disk_model.specs.Disk.{EachImage}

@@ -5,16 +5,12 @@ use Rattle.std.proofs.lemmas.Bool.{false≢true}
 use Rattle.command_text.specs.Reading.{unread, ReadsNext}
 use Rattle.command_text.specs.Text.{next}
 use Rattle.command_text.specs.declared.fault.TextFault.{TextFault}
-use Rattle.command_text.specs.declared.fault.TextFault.TheVariants.{Source}
 use Rattle.command_text.specs.declared.item.Item.{Item}
 use Rattle.command_text.specs.declared.item.Item.TheVariants.{Ended}
-use Rattle.command_server.specs.Answering.{status_of}
-use Rattle.command_server.specs.Faults.{device_faults, source_faults, sink_faults}
 use Rattle.command_server.specs.Serving.{no_text}
 use Rattle.command_server.specs.Session.{Session, point}
-use Rattle.command_server.specs.Texts.{text_of}
 use Rattle.command_server.specs.declared.status.Status.{Status}
-use Rattle.command_server.proofs.StepLemmas.{given_of, nothing_read, stopped_at, said, said_device, said_source, unread_ends, unread_source, unread_device, unread_sink}
+use Rattle.command_server.proofs.StepLemmas.{given_of, nothing_read, stopped_at, said, unread_ends}
 use Rattle.command_server.proofs.serving.serve_item.Goals as goal
 
 pub returns-in-Err-clause-session : goal.returns-in-Err-clause-session
