@@ -1,23 +1,44 @@
 //! Sessions over disks that fail, and what a power cut leaves of them.
-use crate::runs::{EXISTS, Ended, OK, calls, fresh, serve_over, times, times_both};
+use crate::runs::{EXISTS, Ended, OK, calls, fresh, serve_over, times};
 use command_server::Status;
 use disk_model::{MemMedia, Pick};
 use std::alloc::{AllocError, Global};
 use std::test::Fail;
 use vol_numbers::{Block, BlockNo};
 
-/// The blocks that a session of few files writes: the selector, the root slots and the first blocks of the log.
-const WRITTEN: [BlockNo; 6] = [0, 1, 2, 7, 8, 9];
+/// The blocks that a session of few commands writes: the selector, the root slots and the first blocks of the log.
+const WRITTEN: [BlockNo; 9] = [0, 1, 2, 7, 8, 9, 10, 11, 12];
 
 /// More calls than any session here has.
 const MANY: u64 = 100;
 
-/// The input of a session, and how many files it makes.
-type Files = (&'static [u8], usize);
+const ONE: &[u8] = b"create /a\n";
 
-const ONE: Files = (b"create /a\n", 1);
+/// Each command that changes the tree.
+const CHANGES: &[u8] = b"mkdir /d
+create /d/a
+write /d/a 2 3
+xyz
+truncate /d/a 4
+rename /d /e
+remove /e/a
+";
 
-const THREE: Files = (b"create /a\ncreate /b\ncreate /c\n", 3);
+/// How many commands these are.
+const ALL: usize = 6;
+
+const QUESTIONS: &[u8] = b"stat /d\nstat /d/a\nstat /e\nstat /e/a\n";
+
+/// What is answered to the questions behind none of the commands, behind the first one, and so on.
+const STANDS: [&[u8]; 7] = [
+    b"refused 3 NotFound\nrefused 3 NotFound\nrefused 3 NotFound\nrefused 3 NotFound\n",
+    b"stat d 2 0\nrefused 3 NotFound\nrefused 3 NotFound\nrefused 3 NotFound\n",
+    b"stat d 2 1\nstat f 3 0\nrefused 3 NotFound\nrefused 3 NotFound\n",
+    b"stat d 2 1\nstat f 3 5\nrefused 3 NotFound\nrefused 3 NotFound\n",
+    b"stat d 2 1\nstat f 3 4\nrefused 3 NotFound\nrefused 3 NotFound\n",
+    b"refused 3 NotFound\nrefused 3 NotFound\nstat d 2 1\nstat f 3 4\n",
+    b"refused 3 NotFound\nrefused 3 NotFound\nstat d 2 0\nrefused 3 NotFound\n",
+];
 
 /// A fresh volume whose device has this plan from now on.
 fn planned(
@@ -50,9 +71,9 @@ fn cut(alloc: Global, media: &mut MemMedia, fill: Option<u8>) -> Result<(), Fail
     Ok(())
 }
 
-/// How many of so many files were made, where that is all that was answered.
-fn made(alloc: Global, ended: &Ended, files: usize) -> Result<Option<usize>, AllocError> {
-    for count in 0..=files {
+/// How many commands were done, where that is all that was answered.
+fn answered(alloc: Global, ended: &Ended) -> Result<Option<usize>, AllocError> {
+    for count in 0..=ALL {
         if ended.text.as_slice() == times(alloc, OK, count)?.as_slice() {
             return Ok(Some(count));
         }
@@ -60,15 +81,16 @@ fn made(alloc: Global, ended: &Ended, files: usize) -> Result<Option<usize>, All
     Ok(None)
 }
 
-/// How many of so many files were there, where these are the first ones and the session made the others.
-fn found(alloc: Global, ended: &Ended, files: usize) -> Result<Option<usize>, AllocError> {
-    for count in 0..=files {
-        let text = times_both(alloc, (EXISTS, count), (OK, files - count))?;
-        if ended.text.as_slice() == text.as_slice() {
-            return Ok(Some(count));
+/// Behind how many of the commands the tree stands that answered the questions so.
+fn standing(ended: &Ended) -> Option<usize> {
+    let mut count: usize = 0;
+    for text in STANDS {
+        if ended.is(Status::Done, text) {
+            return Some(count);
         }
+        count = count.saturating_add(1);
     }
-    Ok(None)
+    None
 }
 
 /// A session over a disk that fails, and what stands there behind a power cut.
@@ -80,12 +102,12 @@ struct Outcome {
 }
 
 impl Outcome {
-    /// All that was answered is there, and at most the file behind it. A session that failed didn't answer all.
-    fn is_lawful(&self, files: usize) -> bool {
+    /// All that was answered is there, and at most the command behind it. A session that failed didn't answer all.
+    fn is_lawful(&self) -> bool {
         let is_kept = self.answered <= self.there && self.there <= self.answered.saturating_add(1);
         match self.status {
-            Status::Done => self.answered == files && self.there == files,
-            Status::Device => self.answered < files && is_kept,
+            Status::Done => self.answered == ALL && self.there == ALL,
+            Status::Device => self.answered < ALL && is_kept,
             _ => false,
         }
     }
@@ -93,17 +115,16 @@ impl Outcome {
 
 fn run_and_cut(
     alloc: Global,
-    files: Files,
     fails: &[u64],
     from: Option<u64>,
     fill: Option<u8>,
 ) -> Result<Outcome, Fail> {
     let mut media = planned(alloc, fails, from)?.ok_or("no image")?;
-    let first = serve_over(alloc, &mut media, files.0)?;
-    let answered = made(alloc, &first, files.1)?.ok_or("other answers")?;
+    let first = serve_over(alloc, &mut media, CHANGES)?;
+    let answered = answered(alloc, &first)?.ok_or("other answers")?;
     cut(alloc, &mut media, fill)?;
-    let second = serve_over(alloc, &mut media, files.0)?;
-    let there = found(alloc, &second, files.1)?.ok_or("no first files")?;
+    let second = serve_over(alloc, &mut media, QUESTIONS)?;
+    let there = standing(&second).ok_or("another tree")?;
     let status = first.status;
     Ok(Outcome {
         status,
@@ -119,13 +140,13 @@ struct Seen {
     done: Option<u64>,
     /// A call with an outcome outside the law, or another one where it fails alone.
     wrong: Option<u64>,
-    /// A file without an answer was there.
+    /// A command without an answer was done.
     kept: bool,
     /// It was not.
     lost: bool,
 }
 
-fn watch(alloc: Global, files: Files, fill: Option<u8>) -> Result<Seen, Fail> {
+fn watch(alloc: Global, fill: Option<u8>) -> Result<Seen, Fail> {
     let mut seen = Seen {
         done: None,
         wrong: None,
@@ -133,10 +154,10 @@ fn watch(alloc: Global, files: Files, fill: Option<u8>) -> Result<Seen, Fail> {
         lost: false,
     };
     for call in 0..MANY {
-        let all = run_and_cut(alloc, files, &[], Some(call), fill)?;
+        let all = run_and_cut(alloc, &[], Some(call), fill)?;
         // The session stops at the first call that fails, so that it doesn't matter what fails behind it.
-        let alone = run_and_cut(alloc, files, &[call], None, fill)?;
-        if alone != all || !all.is_lawful(files.1) {
+        let alone = run_and_cut(alloc, &[call], None, fill)?;
+        if alone != all || !all.is_lawful() {
             seen.wrong = Some(call);
         }
         if all.status == Status::Done {
@@ -156,39 +177,38 @@ fn selector_in_flight_decides(rt: HostRuntime) -> Result<(), Fail> {
     let rows: [(u8, &[u8]); 4] = [(4, OK), (0, OK), (7, EXISTS), (1, EXISTS)];
     for (byte, text) in rows {
         let mut media = planned(alloc, &[], Some(10))?.ok_or("no image")?;
-        let first = serve_over(alloc, &mut media, ONE.0)?;
+        let first = serve_over(alloc, &mut media, ONE)?;
         assert!(rt; first.is(Status::Device, b""));
         let disk = media.disk("v").ok_or("no image")?;
         assert!(rt; disk.is_open(0) && !disk.is_open(2) && !disk.is_open(7));
         cut(alloc, &mut media, Some(byte))?;
-        let second = serve_over(alloc, &mut media, ONE.0)?;
+        let second = serve_over(alloc, &mut media, ONE)?;
         assert!(rt; second.is(Status::Done, text), "at {byte}");
     }
     Ok(())
 }
 
+/// What is acknowledged is there behind a power cut, with this byte in the blocks that were open, and both outcomes of the next command come up.
+fn keeps_what_it_answered(alloc: Global, fill: Option<u8>) -> Result<bool, Fail> {
+    let seen = watch(alloc, fill)?;
+    // A mount has 7 calls, and each command 5.
+    Ok(seen.wrong.is_none() && seen.done == Some(37) && seen.kept && seen.lost)
+}
+
 #[test]
-fn one_file_is_there_once_it_is_answered(rt: HostRuntime) -> Result<(), Fail> {
-    let alloc = rt.alloc();
-    // The selector names slot 1 behind the first file, so that an even byte in its place loses the file.
-    let rows: [(Option<u8>, bool); 3] = [(None, true), (Some(255), true), (Some(4), false)];
-    for (fill, is_kept) in rows {
-        let seen = watch(alloc, ONE, fill)?;
-        assert!(rt; seen.wrong.is_none(), "at {fill:?}: {seen:?}");
-        assert!(rt; seen.done == Some(12), "at {fill:?}: {seen:?}");
-        assert!(rt; seen.kept == is_kept && seen.lost, "at {fill:?}: {seen:?}");
-    }
+fn what_is_answered_is_there_as_it_was_written(rt: HostRuntime) -> Result<(), Fail> {
+    assert!(rt; keeps_what_it_answered(rt.alloc(), None)?);
     Ok(())
 }
 
 #[test]
-fn the_files_answered_and_no_others_but_the_next_are_there(rt: HostRuntime) -> Result<(), Fail> {
-    let alloc = rt.alloc();
-    for fill in [None, Some(255), Some(4)] {
-        let seen = watch(alloc, THREE, fill)?;
-        assert!(rt; seen.wrong.is_none(), "at {fill:?}: {seen:?}");
-        assert!(rt; seen.done == Some(22), "at {fill:?}: {seen:?}");
-        assert!(rt; seen.kept && seen.lost, "at {fill:?}: {seen:?}");
-    }
+fn what_is_answered_is_there_with_an_odd_selector(rt: HostRuntime) -> Result<(), Fail> {
+    assert!(rt; keeps_what_it_answered(rt.alloc(), Some(255))?);
+    Ok(())
+}
+
+#[test]
+fn what_is_answered_is_there_with_an_even_selector(rt: HostRuntime) -> Result<(), Fail> {
+    assert!(rt; keeps_what_it_answered(rt.alloc(), Some(4))?);
     Ok(())
 }

@@ -82,10 +82,15 @@ fn tells_that_a_volume_is_not_built(rt: HostRuntime) -> Result<(), Fail> {
 #[test]
 fn tells_the_first_bad_record(rt: HostRuntime) -> Result<(), Fail> {
     let alloc = rt.alloc();
-    let rows: [Row; 9] = [
+    let rows: [Row; 12] = [
+        // A write without data, a path without its slash, and kinds that there aren't.
         (7, 0, 3, b"bad BadLog 0\n"),
         (7, 24, b'.', b"bad BadLog 0\n"),
-        (8, 0, 1, b"bad BadLog 1\n"),
+        (8, 0, 0, b"bad BadLog 1\n"),
+        (8, 0, 7, b"bad BadLog 1\n"),
+        // A removal and a truncation of a file that isn't there.
+        (8, 0, 5, b"bad BadLog 1\n"),
+        (8, 0, 4, b"bad BadLog 1\n"),
         (8, 4, 1, b"bad BadLog 1\n"),
         (8, 8, 1, b"bad BadLog 1\n"),
         (8, 25, b'/', b"bad BadLog 1\n"),
@@ -132,13 +137,20 @@ fn finds_nothing_in_what_has_no_meaning(rt: HostRuntime) -> Result<(), Fail> {
 }
 
 #[test]
-fn reads_another_name_where_a_record_has_one(rt: HostRuntime) -> Result<(), Fail> {
+fn reads_another_command_where_a_record_has_one(rt: HostRuntime) -> Result<(), Fail> {
     let alloc = rt.alloc();
-    let mut media = fresh(alloc)?;
-    assert!(rt; serve_over(alloc, &mut media, b"create /a\n")?.is(Status::Done, OK));
-    damage(&mut media, 7, 25, b'z').ok_or("no such byte")?;
-    let ended = serve_over(alloc, &mut media, b"create /z\ncreate /a\n")?;
-    assert!(rt; ended.is(Status::Done, b"refused 6 Exists\nok\n"));
+    // Another name, and `mkdir` in the place of `create`.
+    let rows: [(usize, u8, &[u8]); 2] = [
+        (25, b'z', b"stat f 2 0\nrefused 3 NotFound\n"),
+        (0, 1, b"refused 3 NotFound\nstat d 2 0\n"),
+    ];
+    for (byte, value, text) in rows {
+        let mut media = fresh(alloc)?;
+        assert!(rt; serve_over(alloc, &mut media, b"create /a\n")?.is(Status::Done, OK));
+        damage(&mut media, 7, byte, value).ok_or("no such byte")?;
+        let ended = serve_over(alloc, &mut media, b"stat /z\nstat /a\n")?;
+        assert!(rt; ended.is(Status::Done, text), "at {byte}");
+    }
     Ok(())
 }
 

@@ -4,9 +4,13 @@
 #[cfg(test)]
 mod cuts;
 #[cfg(test)]
+mod ends;
+#[cfg(test)]
 mod findings;
 #[cfg(test)]
 mod formats;
+#[cfg(test)]
+mod logs;
 #[cfg(test)]
 mod runs;
 #[cfg(test)]

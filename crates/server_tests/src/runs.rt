@@ -10,9 +10,13 @@ pub(crate) const ROOM: usize = 100_000;
 
 pub(crate) const OK: &[u8] = b"ok\n";
 
-pub(crate) const EXISTS: &[u8] = b"refused 6 Exists\n";
-
 pub(crate) const BAD_COMMAND: &[u8] = b"refused 1 BadCommand\n";
+
+pub(crate) const BAD_NAME: &[u8] = b"refused 2 BadName\n";
+
+pub(crate) const NOT_FOUND: &[u8] = b"refused 3 NotFound\n";
+
+pub(crate) const EXISTS: &[u8] = b"refused 6 Exists\n";
 
 pub(crate) const LOG_FULL: &[u8] = b"refused 16 LogFull\n";
 
@@ -54,9 +58,20 @@ pub(crate) fn run_between(
     media: &mut MemMedia,
     words: &[&str],
     mut source: MemSource,
+    sink: MemSink,
+) -> Result<Ended, AllocError> {
+    run_from(alloc, media, words, &mut source, sink)
+}
+
+/// A run into this sink from a source that a later run goes on with.
+pub(crate) fn run_from(
+    alloc: Global,
+    media: &mut MemMedia,
+    words: &[&str],
+    source: &mut MemSource,
     mut sink: MemSink,
 ) -> Result<Ended, AllocError> {
-    let status = run(alloc, words, media, &mut source, &mut sink);
+    let status = run(alloc, words, media, source, &mut sink);
     let text = sink.bytes().to_vec(alloc)?;
     Ok(Ended { status, text })
 }

@@ -1,7 +1,7 @@
 //! Sessions of `serve` over whole volumes: what is answered, and what is left.
 use crate::runs::{
-    BAD_COMMAND, EXISTS, LOG_FULL, OK, block_at, fresh, joined, roomy, run_between, serve_over,
-    source_of, times, times_both,
+    BAD_COMMAND, BAD_NAME, EXISTS, NOT_FOUND, OK, block_at, fresh, joined, roomy, run_between,
+    serve_over, source_of, times,
 };
 use command_server::Status;
 use std::alloc::{AllocError, Global};
@@ -9,6 +9,43 @@ use std::test::Fail;
 
 /// The word of a session over the image `v`.
 const SERVE: [&str; 2] = ["serve", "v"];
+
+/// The input of a session, how it ends, and what it answers.
+type Row = (&'static [u8], Status, &'static [u8]);
+
+const REFUSED: &[u8] = b"create /a
+create /a
+mkdir /
+write /b 0 1
+x
+write / 0 1
+x
+create /a/b
+remove /
+mkdir /d
+rename /d /d/e
+create /d/f
+remove /d
+create /..
+chmod /a
+list /a
+";
+
+const REFUSALS: &[u8] = b"ok
+refused 6 Exists
+refused 6 Exists
+refused 3 NotFound
+refused 5 IsADirectory
+refused 4 NotADirectory
+refused 7 RootFixed
+ok
+refused 8 Inside
+ok
+refused 9 NotEmpty
+refused 2 BadName
+refused 1 BadCommand
+refused 4 NotADirectory
+";
 
 /// `create /` with a name of so many bytes, and a newline.
 fn create_long(alloc: Global, name: usize) -> Result<Vec<u8>, AllocError> {
@@ -25,54 +62,48 @@ fn long_line(alloc: Global, bytes: usize) -> Result<Vec<u8>, AllocError> {
     Ok(line)
 }
 
-/// The lines from `create /f00` to `create /f64`.
-fn many_files(alloc: Global) -> Result<Vec<u8>, AllocError> {
-    let mut input = Vec::new(alloc);
-    for tens in [b'0', b'1', b'2', b'3', b'4', b'5', b'6'] {
-        ten_files(&mut input, tens)?;
-    }
-    // The last ten end at 64.
-    input.truncate(65 * 12);
-    Ok(input)
-}
-
-fn ten_files(input: &mut Vec<u8>, tens: u8) -> Result<(), AllocError> {
-    for ones in [b'0', b'1', b'2', b'3', b'4', b'5', b'6', b'7', b'8', b'9'] {
-        input.extend_from_slice(b"create /f")?;
-        input.push(tens)?;
-        input.push(ones)?;
-        input.push(b'\n')?;
-    }
+#[test]
+fn answers_each_refusal(rt: HostRuntime) -> Result<(), Fail> {
+    let alloc = rt.alloc();
+    let whole = serve_over(alloc, &mut fresh(alloc)?, REFUSED)?;
+    assert!(rt; whole.is(Status::Done, REFUSALS));
+    // The same a byte at a time.
+    let source = source_of(alloc, REFUSED, &[])?;
+    let ended = run_between(
+        alloc,
+        &mut fresh(alloc)?,
+        &SERVE,
+        source,
+        roomy(alloc, &[])?,
+    )?;
+    assert!(rt; ended.is(Status::Done, REFUSALS));
     Ok(())
 }
 
 #[test]
-fn answers_each_line(rt: HostRuntime) -> Result<(), Fail> {
+fn keeps_a_file_in_a_directory_for_a_later_session(rt: HostRuntime) -> Result<(), Fail> {
     let alloc = rt.alloc();
     let mut media = fresh(alloc)?;
-    let ended = serve_over(alloc, &mut media, b"create /a\ncreate /a\nmkdir /d\nend\n")?;
-    let text = b"ok\nrefused 6 Exists\nrefused 1 BadCommand\nok\n";
-    assert!(rt; ended.is(Status::Done, text));
-    // A later session sees the file.
-    let again = serve_over(alloc, &mut media, b"create /b\ncreate /a\ncreate /b\n")?;
-    assert!(rt; again.is(Status::Done, b"ok\nrefused 6 Exists\nrefused 6 Exists\n"));
-    Ok(())
-}
-
-#[test]
-fn fills_the_log(rt: HostRuntime) -> Result<(), Fail> {
-    let alloc = rt.alloc();
-    let mut media = fresh(alloc)?;
-    let ended = serve_over(alloc, &mut media, &many_files(alloc)?)?;
-    let text = times_both(alloc, (OK, 64), (LOG_FULL, 1))?;
-    assert!(rt; ended.is(Status::Done, &text));
-    let again = serve_over(
+    let first = serve_over(
         alloc,
         &mut media,
-        b"create /f00\ncreate /f63\ncreate /f64\n",
+        b"mkdir /d\ncreate /d/a\nwrite /d/a 2 3\nxyz\nrename /d /e\nread /e/a 0 9\nlist /\n",
     )?;
-    let text = times_both(alloc, (EXISTS, 2), (LOG_FULL, 1))?;
-    assert!(rt; again.is(Status::Done, &text));
+    let text = b"ok\nok\nok\nok\ndata 5\n\0\0xyz\nlist 1\nd 2 e\n";
+    assert!(rt; first.is(Status::Done, text));
+    let later = serve_over(alloc, &mut media, b"stat /e/a\nstat /d\n")?;
+    assert!(rt; later.is(Status::Done, b"stat f 3 5\nrefused 3 NotFound\n"));
+    Ok(())
+}
+
+#[test]
+fn does_no_write_whose_bytes_are_wanting(rt: HostRuntime) -> Result<(), Fail> {
+    let alloc = rt.alloc();
+    let mut media = fresh(alloc)?;
+    let ended = serve_over(alloc, &mut media, b"create /a\nwrite /a 0 10\nhello")?;
+    assert!(rt; ended.is(Status::BadStream, OK));
+    let later = serve_over(alloc, &mut media, b"stat /a\n")?;
+    assert!(rt; later.is(Status::Done, b"stat f 2 0\n"));
     Ok(())
 }
 
@@ -97,9 +128,9 @@ fn writes_the_record_as_the_format_says(rt: HostRuntime) -> Result<(), Fail> {
 }
 
 #[test]
-fn answers_inputs_by_the_table(rt: HostRuntime) -> Result<(), Fail> {
+fn ends_as_the_input_says(rt: HostRuntime) -> Result<(), Fail> {
     let alloc = rt.alloc();
-    let rows: [(&[u8], Status, &[u8]); 26] = [
+    let rows: [Row; 11] = [
         (b"", Status::Done, b""),
         (b"end\n", Status::Done, OK),
         (b"end\ncreate /a\n", Status::Done, OK),
@@ -108,28 +139,88 @@ fn answers_inputs_by_the_table(rt: HostRuntime) -> Result<(), Fail> {
         (b"create /a", Status::BadStream, b""),
         (b"end", Status::BadStream, b""),
         (b"x\nend", Status::BadStream, BAD_COMMAND),
-        (b"\n", Status::Done, BAD_COMMAND),
-        (b"create /\n", Status::Done, BAD_COMMAND),
-        (b"create /.\n", Status::Done, BAD_COMMAND),
-        (b"create /..\n", Status::Done, BAD_COMMAND),
-        (b"create /...\n", Status::Done, OK),
-        (b"create /.a\n", Status::Done, OK),
-        (b"create /a%41\n", Status::Done, BAD_COMMAND),
-        (b"create /a b\n", Status::Done, BAD_COMMAND),
-        (b"create /a/b\n", Status::Done, BAD_COMMAND),
-        (b"create //a\n", Status::Done, BAD_COMMAND),
-        (b"create /a\x7f\n", Status::Done, BAD_COMMAND),
-        (b"create /a\r\n", Status::Done, BAD_COMMAND),
-        (b"create /!~\n", Status::Done, OK),
-        (b"create a\n", Status::Done, BAD_COMMAND),
-        (b"create  /a\n", Status::Done, BAD_COMMAND),
-        (b" end\n", Status::Done, BAD_COMMAND),
-        (b"end \n", Status::Done, BAD_COMMAND),
-        (b"END\n", Status::Done, BAD_COMMAND),
+        // The bytes of a write go on where a newline has to be, and the newline behind no bytes is wanting.
+        (b"end x\nwrite /a 0 1\nxy\n", Status::BadStream, BAD_COMMAND),
+        (b"write /a 0 0\n", Status::BadStream, b""),
+        (
+            b"layout /\nspace\ncheckpoint\n",
+            Status::Done,
+            b"refused 1 BadCommand\nrefused 1 BadCommand\nrefused 1 BadCommand\n",
+        ),
     ];
     for (input, status, text) in rows {
         let ended = serve_over(alloc, &mut fresh(alloc)?, input)?;
         assert!(rt; ended.is(status, text), "at {input:?}");
+    }
+    Ok(())
+}
+
+#[test]
+fn reads_the_fields_of_a_line(rt: HostRuntime) -> Result<(), Fail> {
+    let alloc = rt.alloc();
+    let rows: [(&[u8], &[u8]); 15] = [
+        (b"\n", BAD_COMMAND),
+        (b" end\n", BAD_COMMAND),
+        (b"end \n", BAD_COMMAND),
+        (b"END\n", BAD_COMMAND),
+        (b"create /a b\n", BAD_COMMAND),
+        (b"create  /a\n", BAD_COMMAND),
+        (b"read /a 0\n", BAD_COMMAND),
+        // A leading zero, 2^64, and more bytes than a write may have.
+        (b"truncate /a 00\n", BAD_COMMAND),
+        (b"truncate /a 18446744073709551616\n", BAD_COMMAND),
+        (b"write /a 0 65537\n", BAD_COMMAND),
+        (b"read /a 0 65537\n", BAD_COMMAND),
+        (b"truncate /a 18446744073709551615\n", NOT_FOUND),
+        (b"read /a 0 65536\n", NOT_FOUND),
+        // A file has at most 2^32 bytes.
+        (
+            b"create /a\ntruncate /a 4294967297\n",
+            b"ok\nrefused 10 TooBig\n",
+        ),
+        // The bytes of a write with a bad path are no lines.
+        (
+            b"write a 0 4\nend\n\nx\n",
+            b"refused 2 BadName\nrefused 1 BadCommand\n",
+        ),
+    ];
+    for (input, text) in rows {
+        let ended = serve_over(alloc, &mut fresh(alloc)?, input)?;
+        assert!(rt; ended.is(Status::Done, text), "at {input:?}");
+    }
+    Ok(())
+}
+
+#[test]
+fn reads_and_writes_names(rt: HostRuntime) -> Result<(), Fail> {
+    let alloc = rt.alloc();
+    let rows: [(&[u8], &[u8]); 18] = [
+        (b"create /\n", EXISTS),
+        (b"create /.\n", BAD_NAME),
+        (b"create /..\n", BAD_NAME),
+        (b"create /%2E\n", BAD_NAME),
+        (b"create /%00\n", BAD_NAME),
+        (b"create /a%2Fb\n", BAD_NAME),
+        (b"create a\n", BAD_NAME),
+        (b"create //a\n", BAD_NAME),
+        (b"create /a/\n", BAD_NAME),
+        (b"rename /a b\n", BAD_NAME),
+        (b"create /a/b\n", NOT_FOUND),
+        (b"create /...\n", OK),
+        (b"create /.a\n", OK),
+        (b"create /a%41\nlist /\n", b"ok\nlist 1\nf 2 aA\n"),
+        (b"create /a\r\nlist /\n", b"ok\nlist 1\nf 2 a%0D\n"),
+        (b"create /!~\x7f\nlist /\n", b"ok\nlist 1\nf 2 !~%7F\n"),
+        // What is no escape stands for itself.
+        (b"create /%4\nlist /\n", b"ok\nlist 1\nf 2 %254\n"),
+        (
+            b"create /b\ncreate /%20\ncreate /B\nlist /\n",
+            b"ok\nok\nok\nlist 3\nf 3 %20\nf 4 B\nf 2 b\n",
+        ),
+    ];
+    for (input, text) in rows {
+        let ended = serve_over(alloc, &mut fresh(alloc)?, input)?;
+        assert!(rt; ended.is(Status::Done, text), "at {input:?}");
     }
     Ok(())
 }
@@ -140,102 +231,12 @@ fn takes_lines_and_names_up_to_their_limits(rt: HostRuntime) -> Result<(), Fail>
     let mut media = fresh(alloc)?;
     let longest = serve_over(alloc, &mut media, &long_line(alloc, 8_192)?)?;
     assert!(rt; longest.is(Status::Done, BAD_COMMAND));
-    let longer = serve_over(alloc, &mut media, &long_line(alloc, 8_193)?)?;
+    let longer = serve_over(alloc, &mut media, &times(alloc, b"x", 8_193)?)?;
     assert!(rt; longer.is(Status::BadStream, b""));
     let name = create_long(alloc, 250)?;
     assert!(rt; serve_over(alloc, &mut media, &name)?.is(Status::Done, OK));
     assert!(rt; serve_over(alloc, &mut media, &name)?.is(Status::Done, EXISTS));
     let longer = serve_over(alloc, &mut media, &create_long(alloc, 251)?)?;
-    assert!(rt; longer.is(Status::Done, BAD_COMMAND));
-    Ok(())
-}
-
-#[test]
-fn takes_inputs_below_the_budget(rt: HostRuntime) -> Result<(), Fail> {
-    let alloc = rt.alloc();
-    let mut media = fresh(alloc)?;
-    // 10 bytes, and then lines of 25 bytes: 2,621 of them make 65,535.
-    let mut input = joined(alloc, &[b"create /a\n"])?;
-    let lines = times(alloc, b"this line is no command.\n", 2_621)?;
-    input.extend_from_slice(&lines)?;
-    assert!(rt; input.len() == 65_535);
-    input.push(b'\n')?;
-    assert!(rt; serve_over(alloc, &mut media, &input)?.is(Status::Budget, b""));
-    input.truncate(65_535);
-    // The longer input made no file.
-    let text = times_both(alloc, (OK, 1), (BAD_COMMAND, 2_621))?;
-    assert!(rt; serve_over(alloc, &mut media, &input)?.is(Status::Done, &text));
-    Ok(())
-}
-
-#[test]
-fn takes_one_byte_at_a_time(rt: HostRuntime) -> Result<(), Fail> {
-    let alloc = rt.alloc();
-    let mut media = fresh(alloc)?;
-    let source = source_of(alloc, b"create /a\n\ncreate /a\nend\nx", &[])?;
-    let ended = run_between(alloc, &mut media, &SERVE, source, roomy(alloc, &[])?)?;
-    let text = b"ok\nrefused 1 BadCommand\nrefused 6 Exists\nok\n";
-    assert!(rt; ended.is(Status::Done, text));
-    Ok(())
-}
-
-#[test]
-fn ends_with_source_failed(rt: HostRuntime) -> Result<(), Fail> {
-    let alloc = rt.alloc();
-    let mut media = fresh(alloc)?;
-    // Ten calls give a byte each, and one tells the end.
-    for call in 0..11 {
-        let source = source_of(alloc, b"create /a\n", &[call])?;
-        let ended = run_between(alloc, &mut media, &SERVE, source, roomy(alloc, &[])?)?;
-        assert!(rt; ended.is(Status::SourceFailed, b""), "at {call}");
-    }
-    // None of them made the file.
-    let source = source_of(alloc, b"create /a\n", &[11])?;
-    let ended = run_between(alloc, &mut media, &SERVE, source, roomy(alloc, &[])?)?;
-    assert!(rt; ended.is(Status::Done, OK));
-    Ok(())
-}
-
-#[test]
-fn keeps_a_file_whose_answer_failed(rt: HostRuntime) -> Result<(), Fail> {
-    let alloc = rt.alloc();
-    let input = b"create /a\ncreate /b\ncreate /c\n";
-    // The first answers, and the files that are there afterwards.
-    let rows: [(u64, &[u8], &[u8]); 3] = [
-        (0, b"", b"refused 6 Exists\nok\nok\n"),
-        (1, b"ok\n", b"refused 6 Exists\nrefused 6 Exists\nok\n"),
-        (
-            2,
-            b"ok\nok\n",
-            b"refused 6 Exists\nrefused 6 Exists\nrefused 6 Exists\n",
-        ),
-    ];
-    for (call, text, behind) in rows {
-        let mut media = fresh(alloc)?;
-        let source = source_of(alloc, input, &[])?;
-        let ended = run_between(alloc, &mut media, &SERVE, source, roomy(alloc, &[call])?)?;
-        assert!(rt; ended.is(Status::SinkFailed, text), "at {call}");
-        let again = serve_over(alloc, &mut media, input)?;
-        assert!(rt; again.is(Status::Done, behind), "behind {call}");
-    }
-    Ok(())
-}
-
-#[test]
-fn ends_at_an_answer_without_effect_that_failed(rt: HostRuntime) -> Result<(), Fail> {
-    let alloc = rt.alloc();
-    let rows: [&[u8]; 3] = [
-        b"x\ncreate /a\n",
-        b"create /b\ncreate /a\n",
-        b"end\ncreate /a\n",
-    ];
-    let mut media = fresh(alloc)?;
-    assert!(rt; serve_over(alloc, &mut media, b"create /b\n")?.is(Status::Done, OK));
-    for input in rows {
-        let source = source_of(alloc, input, &[])?;
-        let ended = run_between(alloc, &mut media, &SERVE, source, roomy(alloc, &[0])?)?;
-        assert!(rt; ended.is(Status::SinkFailed, b""), "at {input:?}");
-    }
-    assert!(rt; serve_over(alloc, &mut media, b"create /a\n")?.is(Status::Done, OK));
+    assert!(rt; longer.is(Status::Done, BAD_NAME));
     Ok(())
 }
