@@ -27,7 +27,7 @@ next_of image at kept [] (c ∷ all) stand other does lt = record { command = c;
 next_of image at kept (b ∷ before) (c ∷ all) stand other does lt =
     let first : c ≡ b = one_command image at c b other.0 stand.0 other.1 stand.1 in
     let next = next_of image (at + record_blocks b) (and_command kept b) before all stand.2
-      (subst (λ (d : Command). RecordsStand image (at + record_blocks d) all) first other.2) (subst (λ (d : Command). DoesEach (and_command kept d) all) first does.1) (omega arith) in
+    (subst (λ (d : Command). RecordsStand image (at + record_blocks d) all) first other.2) (subst (λ (d : Command). DoesEach (and_command kept d) all) first does.1) (omega arith) in
     record {
       command = next.command;
       stand = (stand.0, stand.1, next.stand);

@@ -39,12 +39,7 @@ pub(crate) fn log<D: Disk>(
     ensures cause { HasCause (D.faults disk.old) (D.faults disk.new) result }
 {
     let body = next_body(&current.body, record_blocks(command));
-    append(
-        disk,
-        &current.body.geometry,
-        current.body.log_used,
-        command,
-    )?;
+    append(disk, &current.body.geometry, current.body.log_used, command)?;
     let slot = commit(disk, current.slot, &body)?;
     Ok(Current { slot, body })
 }

@@ -59,11 +59,7 @@ pub(crate) struct Front {
 }
 
 /// Reads the records up to the first bad one.
-fn read_front<D: Disk>(
-    alloc: Global,
-    disk: &mut D,
-    body: &RootBody,
-) -> Result<Front, MountFault>
+fn read_front<D: Disk>(alloc: Global, disk: &mut D, body: &RootBody) -> Result<Front, MountFault>
     requires grammar { HasGeometry (root_of body.now) }
     requires size { (root_of body.now).layout.blocks ≡ (D.fixed disk.old).size }
     ensures front { IfOk result (ReadsFront D.tells (D.state disk.old).contents body.now) }

@@ -90,11 +90,7 @@ impl LogVolume {
     ///
     /// A write or a sync failed, now or before. After a failure the volume does nothing any more, and only a mount can say whether the
     /// command is in the log. Want of memory is an answer, and leaves the volume as it was.
-    pub fn apply<D: Disk>(
-        &mut self,
-        disk: &mut D,
-        command: &Command,
-    ) -> Result<Answer, Stopped>
+    pub fn apply<D: Disk>(&mut self, disk: &mut D, command: &Command) -> Result<Answer, Stopped>
         requires size { self.old.root.layout.blocks ≡ (D.fixed disk.old).size }
         requires fits { self.old.is_failed ≡ false → IsTrue D.tells → Fits self.old (D.state disk.old) }
 
