@@ -9,6 +9,8 @@ mod logging;
 mod meaning;
 mod mounting;
 mod replaying;
+#[cfg(test)]
+mod tests;
 mod volume;
 
 pub use answer::{Answer, Stopped};
