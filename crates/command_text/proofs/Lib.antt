@@ -14,3 +14,5 @@ pub mod NameLemmas
 pub mod NumberLemmas
 pub mod PlaceLemmas
 pub mod PathLemmas
+pub mod SpellingLemmas
+pub mod ReadBackLemmas

@@ -33,7 +33,7 @@ pass_bytes (b ∷ bytes) all =
     let rest : list_all is_name_byte bytes ≡ true = grind (arith, nat_tests) in
     All-cons IsNameByte b bytes (passes_byte b here) (pass_bytes bytes rest)
 
-other : (one two : List ℕ) → one ≢ two → bytes_eq one two ≡ false
+pub other : (one two : List ℕ) → one ≢ two → bytes_eq one two ≡ false
 other one two ne = false_from_ne_true (bytes_eq one two) (λ e. ne ((bytes_eq-Decides one two).0 e))
 
 same : (one two : List ℕ) → bytes_eq one two ≡ false → one ≢ two

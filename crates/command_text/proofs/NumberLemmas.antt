@@ -24,7 +24,7 @@ digits_of_decimal word is = grind (arith, nat_tests)
 some_of_decimal : (word : List ℕ) → is_decimal word ≡ true → 0 < length word
 some_of_decimal word is = grind (arith, nat_tests)
 
-fits : (word : List ℕ) → is_decimal word ≡ true → digits_value 10 word < 2 ^ 64 → number_in word ≡ Some (digits_value 10 word)
+pub fits : (word : List ℕ) → is_decimal word ≡ true → digits_value 10 word < 2 ^ 64 → number_in word ≡ Some (digits_value 10 word)
 unfolding number_in
 fits word is lt = grind (arith, nat_tests)
 

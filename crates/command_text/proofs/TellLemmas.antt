@@ -96,9 +96,12 @@ all_bytes : (name : List ℕ) → AllByRecursion IsByte name → All IsByte name
 all_bytes [] all = All-nil IsByte
 all_bytes (b ∷ name) all = All-cons IsByte b name all.0 (all_bytes name all.1)
 
+-- an escaped name is decoded as the name
+pub name_decoded : (name : List ℕ) → All IsByte name → percent_decode (escaped name) ≡ name
+name_decoded name bytes = ap percent_decode (sym (encode_is escapes_set name set_escapes)) ∙ round_trip escapes_set name has_percent bytes
+
 same_name : (m n : List ℕ) → AllByRecursion IsByte m → AllByRecursion IsByte n → escaped m ≡ escaped n → m ≡ n
-same_name m n one two e =
-    sym (round_trip escapes_set m has_percent (all_bytes m one)) ∙ ap percent_decode (encode_is escapes_set m set_escapes ∙ e ∙ sym (encode_is escapes_set n set_escapes)) ∙ round_trip escapes_set n has_percent (all_bytes n two)
+same_name m n one two e = sym (name_decoded m (all_bytes m one)) ∙ ap percent_decode e ∙ name_decoded n (all_bytes n two)
 
 abbrev is_inside : ℕ → Bool
 is_inside b = not (b == 10)

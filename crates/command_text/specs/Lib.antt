@@ -4,6 +4,7 @@ pub mod Lines
 pub mod Numbers
 pub mod Paths
 pub mod Putting
+pub mod ReadBack
 pub mod Reading
 pub mod Replies
 pub mod Spelling

@@ -1,15 +1,17 @@
 //! Names as replies write them.
-ghost use Rattle.std.specs.Prelude.{◌≡◌, ◌++◌, OnOk, ℕ};
+ghost use Rattle.std.specs.Prelude.{◌≡◌, ◌++◌, OnOk, ℕ, All};
 ghost use Rattle.std.specs.String.{string_bytes};
 ghost use Rattle.percent_encoding.specs.AsciiSet.{should_percent_encode};
 ghost use Rattle.command_text.specs.Replies.{needs_escape, escaped};
+ghost use Rattle.command_text.specs.Telling.{IsByte};
 
 use percent_encoding::{AsciiSet, CONTROLS, percent_encode};
 use std::alloc::AllocError;
 
 /// Appends a name, with each byte below 33 or above 126 and each `%` escaped.
 pub(crate) fn push_escaped(text: &mut String, name: &[u8]) -> Result<(), AllocError>
-    ensures { OnOk result (string_bytes text.new ≡ string_bytes text.old ++ escaped name.now) }
+    ensures text { OnOk result (string_bytes text.new ≡ string_bytes text.old ++ escaped name.now) }
+    ensures bytes { All IsByte name.now }
 {
     percent_encode(name, escapes()).append_to(text)
 }

@@ -1,8 +1,11 @@
 //! The one spelling of a command.
-ghost use Rattle.std.specs.Prelude.{◌≡◌, ◌++◌, codes, IfOk, OnOk};
+ghost use Rattle.std.specs.Prelude.{◌≡◌, ◌++◌, codes, IfOk, OnOk, All};
 ghost use Rattle.std.specs.String.{string_bytes};
 ghost use Rattle.command_text.specs.Putting.{PutsText, PutsAnswer, HasPutCause};
-ghost use Rattle.command_text.specs.Spelling.{path_spelling, spelling, number_spelling, line_spelling, data_spelling};
+ghost use Rattle.command_text.specs.ReadBack.{IsCommandPath, IsCommand, ReadsBack};
+ghost use Rattle.command_text.specs.Telling.{IsByte};
+ghost use Rattle.vol_numbers.specs.Name.{IsName};
+ghost use Rattle.command_text.specs.Spelling.{name_spelling, path_spelling, spelling, number_spelling, line_spelling, data_spelling};
 ghost use Rattle.vol_numbers.specs.Cause.{HasCause};
 
 use crate::PutFault;
@@ -11,18 +14,29 @@ use crate::replies::put_ended;
 use itoa::Buffer;
 use std::alloc::{AllocError, Global};
 use tree_model::{Command, Path};
+use vol_numbers::Name;
 use wire_ends::{Sink, SinkFault};
 
+/// Appends a name with a slash before it.
+fn push_name(text: &mut String, name: &Name) -> Result<(), AllocError>
+    ensures text { OnOk result (string_bytes text.new ≡ string_bytes text.old ++ name_spelling name.now) }
+    ensures name { OnOk result (IsName name.now) }
+    ensures bytes { OnOk result (All IsByte name.now) }
+{
+    text.push_str("/")?;
+    push_escaped(text, name.as_bytes())
+}
+
 fn push_path(text: &mut String, path: &Path) -> Result<(), AllocError>
-    ensures { OnOk result (string_bytes text.new ≡ string_bytes text.old ++ path_spelling path.now) }
+    ensures text { OnOk result (string_bytes text.new ≡ string_bytes text.old ++ path_spelling path.now) }
+    ensures path { OnOk result (IsCommandPath path.now) }
 {
     let names = path.names();
     if names.is_empty() {
         return text.push_str("/");
     }
     for name in names {
-        text.push_str("/")?;
-        push_escaped(text, name.as_bytes())?;
+        push_name(text, name)?;
     }
     Ok(())
 }
@@ -36,7 +50,8 @@ fn push_number(text: &mut String, number: u64) -> Result<(), AllocError>
 }
 
 fn push_on_path(text: &mut String, verb: &str, path: &Path) -> Result<(), AllocError>
-    ensures { OnOk result (string_bytes text.new ≡ string_bytes text.old ++ verb.now ++ path_spelling path.now) }
+    ensures path { OnOk result (IsCommandPath path.now) }
+    ensures text { OnOk result (string_bytes text.new ≡ string_bytes text.old ++ verb.now ++ path_spelling path.now) }
 {
     text.push_str(verb)?;
     push_path(text, path)
@@ -44,7 +59,8 @@ fn push_on_path(text: &mut String, verb: &str, path: &Path) -> Result<(), AllocE
 
 /// Appends the line of a command without its newline.
 fn push_line(text: &mut String, command: &Command) -> Result<(), AllocError>
-    ensures { OnOk result (string_bytes text.new ≡ string_bytes text.old ++ line_spelling command.now) }
+    ensures command { OnOk result (IsCommand command.now) }
+    ensures text { OnOk result (string_bytes text.new ≡ string_bytes text.old ++ line_spelling command.now) }
 {
     match command {
         Command::Mkdir { path } => push_on_path(text, "mkdir ", path),
@@ -87,7 +103,8 @@ fn push_line(text: &mut String, command: &Command) -> Result<(), AllocError>
 
 /// The line of a command with its newline.
 fn line_of(alloc: Global, command: &Command) -> Result<String, AllocError>
-    ensures { IfOk result (λ line. string_bytes line ≡ line_spelling command.now ++ codes "\n") }
+    ensures command { IfOk result (λ line. IsCommand command.now) }
+    ensures text { IfOk result (λ line. string_bytes line ≡ line_spelling command.now ++ codes "\n") }
 {
     let mut line = String::new(alloc);
     push_line(&mut line, command)?;
@@ -130,6 +147,7 @@ pub fn print_command<W: Sink>(
     command: &Command,
 ) -> Result<(), PutFault>
     ensures text { PutsAnswer (W.seen sink.old) (W.seen sink.new) (spelling command.now) result }
+    ensures reads_back { OnOk result (ReadsBack command.now) }
     ensures cause { HasPutCause (W.seen sink.old).faults (W.seen sink.new).faults result }
 {
     let Ok(line) = line_of(alloc, command) else {

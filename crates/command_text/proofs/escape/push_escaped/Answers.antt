@@ -1,8 +1,13 @@
-use Rattle.std.proofs.Common.{◌∙◌}
+use Rattle.std.proofs.Common.{◌∙◌, arith}
+use Rattle.std.proofs.lemmas.List.Elements.{All-from_get_or}
+use Rattle.command_text.specs.Telling.{IsByte}
 use Rattle.command_text.proofs.EscapeLemmas.{encode_is}
 use Rattle.command_text.proofs.escape.push_escaped.Goals as goal
 
 pub returns : goal.returns
 returns c =
     let same = c.percent_encode.ensures.text ∙ encode_is c.escapes.result c.args.name.now c.escapes.ensures in
-    rw same at c.append_to.ensures.ok
+    record {
+      text = rw same at c.append_to.ensures.ok;
+      bytes = All-from_get_or IsByte c.args.name.now 0 (λ i within. omega (arith, c.type_inv.name i));
+    }
