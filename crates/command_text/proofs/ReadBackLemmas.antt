@@ -211,9 +211,9 @@ write_is_all text path offset bytes says =
     let more_counted = length-append bytes (10 ∷ []) in
     let behind = drop_line text (bytes ++ 10 ∷ []) in
     let ended : is_newline (get_or all (length text + 1 + length bytes) 0) ≡ true =
-        ap is_newline (
-          ap (λ (k : ℕ). get_or all k 0) (omega arith) ∙ get_or-append-add text (10 ∷ (bytes ++ 10 ∷ [])) (1 + length bytes) 0
-          ∙ ap (λ (k : ℕ). get_or (10 ∷ (bytes ++ 10 ∷ [])) k 0) (omega arith) ∙ get_or-append-add (10 ∷ bytes) (10 ∷ []) 0 0) in
+    ap is_newline (
+    ap (λ (k : ℕ). get_or all k 0) (omega arith) ∙ get_or-append-add text (10 ∷ (bytes ++ 10 ∷ [])) (1 + length bytes) 0
+    ∙ ap (λ (k : ℕ). get_or (10 ∷ (bytes ++ 10 ∷ [])) k 0) (omega arith) ∙ get_or-append-add (10 ∷ bytes) (10 ∷ []) 0 0) in
     let whole = whole_written all (length text) (Some path) offset (length bytes) asks (omega arith) ended in
     let same : take (length bytes) (drop (length text + 1) all) ≡ bytes = ap (take (length bytes)) behind ∙ take_front bytes (10 ∷ []) in
     let item_same : write_of (Some path) offset (take (length bytes) (drop (length text + 1) all)) ≡ item.Command (Write path offset bytes) = ap (λ (l : List ℕ). item.Command (Write path offset l)) same in
