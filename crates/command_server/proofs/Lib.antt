@@ -1,4 +1,3 @@
-pub mod NumberLemmas
 pub mod OpeningLemmas
 pub mod PutLemmas
 pub mod SessionLemmas

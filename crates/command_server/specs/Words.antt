@@ -1,10 +1,8 @@
 -- What the words of a call ask for.
-use Rattle.std.specs.Prelude.{ℕ, ◌^◌, ◌==◌, ◌&&◌, ◌||◌, not, nat_lt, nat_le, if◌then◌else◌, Bool, List, [], ◌∷◌, length, codes, bytes_eq, slice_index, Option, Some, None, is_none, unwrap_or, option_and_then}
+use Rattle.std.specs.Prelude.{ℕ, ◌^◌, ◌==◌, ◌&&◌, not, nat_lt, nat_le, if◌then◌else◌, Bool, List, [], ◌∷◌, length, codes, bytes_eq, slice_index, Option, Some, None, is_none, unwrap_or, option_and_then}
 use Rattle.std.specs.Option.{option_map}
-use Rattle.std.specs.List.{list_all}
-use Rattle.std.specs.Char.{is_ascii_digit}
-use Rattle.std.specs.Str.Parse.{digits_value}
 use Rattle.vol_numbers.specs.Layout.{Layout, area_size}
+use Rattle.command_text.specs.Numbers.{number_in}
 use Rattle.command_server.specs.declared.words.FormatOptions.{FormatOptions}
 
 -- to make a volume of this layout in the image of this name
@@ -13,23 +11,19 @@ pub data Request : Type 0 where
   -- to serve a session over the volume in the image of this name
   Serve : List ℕ → Request
 
--- one digit, or more of which the first isn't 0
-abbrev pub has_first_digit : List ℕ → Bool
-has_first_digit word = length word == 1 || (nat_lt 1 (length word) && not (slice_index word 0 == 48))
+-- a number below 2^32: no row of the table of actions has a greater one
+abbrev pub within_table : ℕ → Option ℕ
+within_table number = if nat_lt number (2 ^ 32) then Some number else None
 
--- digits alone, with no leading zero
-abbrev pub is_decimal : List ℕ → Bool
-is_decimal word = list_all is_ascii_digit word && has_first_digit word
-
--- the number that a word writes, if it is one below 2^32: no row of the table of actions has a greater one
-abbrev pub number_in : List ℕ → Option ℕ
-number_in word = if is_decimal word && nat_lt (digits_value 10 word) (2 ^ 32) then Some (digits_value 10 word) else None
+-- the number that a word writes, if the table may have it
+abbrev pub value_in : List ℕ → Option ℕ
+value_in word = option_and_then within_table (number_in word)
 
 -- with one option more, if it is an option of a format that wasn't given yet and its value is a number
 abbrev pub with_option : FormatOptions → List ℕ → List ℕ → Option FormatOptions
 with_option o name value =
-    if bytes_eq name (codes "--blocks") && is_none o.blocks then option_map (λ n. record o { blocks = Some n }) (number_in value)
-    else if bytes_eq name (codes "--log") && is_none o.log then option_map (λ n. record o { log = Some n }) (number_in value)
+    if bytes_eq name (codes "--blocks") && is_none o.blocks then option_map (λ n. record o { blocks = Some n }) (value_in value)
+    else if bytes_eq name (codes "--log") && is_none o.log then option_map (λ n. record o { log = Some n }) (value_in value)
     else None
 
 -- with all the options of these words, which are pairs of an option and its value

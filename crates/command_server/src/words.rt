@@ -1,12 +1,11 @@
 //! What the words of a call ask for, read by hand: the action, the image, and then pairs of an option and its value.
 ghost use Rattle.std.specs.Prelude.{◌≡◌, ◌∷◌, map, Some, None, option_and_then, true, false, MatchOption};
-ghost use Rattle.command_server.specs.Words.{no_options, request_of, format_of, serve_of, with_options, with_option, number_in, layout_in, is_layout, is_decimal, has_first_digit, is_plain};
-ghost use Rattle.std.specs.List.{list_all};
-ghost use Rattle.std.specs.Char.{is_ascii_digit};
+ghost use Rattle.command_server.specs.Words.{no_options, request_of, format_of, serve_of, with_options, with_option, value_in, layout_in, is_layout, is_plain};
 ghost use Rattle.vol_numbers.specs.Geometry.{layout_of};
 ghost use Rattle.command_server.specs.Asked.{asked};
 ghost use Rattle.command_server.specs.Text.{texts};
 
+use command_text::read_number;
 use vol_numbers::Geometry;
 
 /// The options of a format, as far as they were given.
@@ -132,35 +131,8 @@ impl FormatOptions {
 
 /// The number that a word writes.
 fn number(word: &str) -> Option<u32>
-    ensures { result ≡ number_in word.now }
+    ensures { result ≡ value_in word.now }
 {
-    if is_decimal(word.as_bytes()) {
-        word.parse().ok()
-    } else {
-        None
-    }
-}
-
-/// Whether a word has digits alone, and no leading zero.
-fn is_decimal(word: &[u8]) -> bool
-    ensures { result ≡ is_decimal word.now }
-{
-    are_digits(word) && has_first_digit(word)
-}
-
-fn are_digits(word: &[u8]) -> bool
-    ensures { result ≡ list_all is_ascii_digit word.now }
-{
-    word.iter().all(|byte| byte.is_ascii_digit())
-}
-
-/// Whether a word of digits has one, and no leading zero.
-fn has_first_digit(word: &[u8]) -> bool
-    ensures { result ≡ has_first_digit word.now }
-{
-    match word {
-        [] => false,
-        [_] => true,
-        [first, ..] => *first != b'0',
-    }
+    let number = read_number(word.as_bytes())?;
+    u32::try_from(number).ok()
 }

@@ -24,6 +24,7 @@ mod verb;
 pub use fault::{PutFault, TextFault};
 pub use item::Item;
 pub use laws::none_begins_another;
+pub use number::read_number;
 pub use print::print_command;
 pub use reader::CommandReader;
 pub use replies::write_reply;

@@ -5,7 +5,7 @@ ghost use Rattle.command_text.specs.Lines.{line_in, line_of_parts, bad_command, 
 ghost use Rattle.command_text.specs.Paths.{path_in};
 
 use crate::cut::cut;
-use crate::number::{length, number};
+use crate::number::{length, read_number};
 use crate::path::path;
 use crate::verb::PathVerb;
 use std::alloc::{AllocError, Global};
@@ -123,7 +123,7 @@ fn two_line(alloc: Global, verb: &[u8], path: &[u8], field: &[u8]) -> Result<Lin
     ensures { IfOk result (λ said. said ≡ two_line verb.now path.now field.now) }
 {
     if verb == b"truncate".as_slice() {
-        return truncate_line(alloc, path, number(field));
+        return truncate_line(alloc, path, read_number(field));
     }
     if verb == b"rename".as_slice() {
         return rename_line(alloc, path, field);
@@ -165,10 +165,10 @@ fn three_line(
     ensures { IfOk result (λ said. said ≡ three_line verb.now path.now offset.now count.now) }
 {
     if verb == b"read".as_slice() {
-        return read_line(alloc, path, number(offset), length(count));
+        return read_line(alloc, path, read_number(offset), length(count));
     }
     if verb == b"write".as_slice() {
-        return write_line(alloc, path, number(offset), length(count));
+        return write_line(alloc, path, read_number(offset), length(count));
     }
     Ok(bad_command())
 }

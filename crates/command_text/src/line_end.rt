@@ -4,7 +4,7 @@ ghost use Rattle.command_text.specs.Front.{is_newline};
 ghost use Rattle.command_text.specs.Filling.{FindsLineEnd};
 
 /// How many bytes a line has at most, without its newline.
-const LONGEST_LINE: usize = 8_192;
+pub(crate) const LONGEST_LINE: usize = 8_192;
 
 /// What the end of the first line is.
 #[derive(Clone, Copy, Debug, PartialEq, Eq)]

@@ -1,4 +1,4 @@
-//! Numbers as lines write them: `0`, or a digit from 1 to 9 and then digits.
+//! Numbers as texts write them: `0`, or a digit from 1 to 9 and then digits.
 ghost use Rattle.std.specs.Prelude.{◌≡◌};
 ghost use Rattle.std.specs.List.{list_all};
 ghost use Rattle.std.specs.Char.{is_ascii_digit};
@@ -7,8 +7,8 @@ ghost use Rattle.command_text.specs.Numbers.{number_in, length_in, is_decimal, h
 use std::str::from_utf8;
 use tree_model::{MOST_BYTES, ReadLength};
 
-/// The number that a field writes, if it is one below 2^64.
-pub(crate) fn number(field: &[u8]) -> Option<u64>
+/// The number that a field of a line writes, if it is one below 2^64: `0`, or digits of which the first isn't `0`.
+pub fn read_number(field: &[u8]) -> Option<u64>
     ensures { result ≡ number_in field.now }
 {
     if !is_decimal(field) {
@@ -24,7 +24,7 @@ pub(crate) fn number(field: &[u8]) -> Option<u64>
 pub(crate) fn length(field: &[u8]) -> Option<ReadLength>
     ensures { result ≡ length_in field.now }
 {
-    match number(field) {
+    match read_number(field) {
         Some(bytes) if bytes <= MOST_BYTES as u64 => ReadLength::new(bytes as u32).ok(),
         _ => None,
     }

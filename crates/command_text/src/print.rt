@@ -10,12 +10,12 @@ ghost use Rattle.vol_numbers.specs.Cause.{HasCause};
 
 use crate::PutFault;
 use crate::escape::push_escaped;
-use crate::replies::put_ended;
+use crate::replies::{TEXT_ROOM, put_with_data};
 use itoa::Buffer;
 use std::alloc::{AllocError, Global};
 use tree_model::{Command, Path};
 use vol_numbers::Name;
-use wire_ends::{Sink, SinkFault};
+use wire_ends::{PutBuffer, Sink, SinkFault};
 
 /// Appends a name with a slash before it.
 fn push_name(text: &mut String, name: &Name) -> Result<(), AllocError>
@@ -117,8 +117,9 @@ fn put_written<W: Sink>(sink: &mut W, line: &str, bytes: &[u8]) -> Result<(), Si
     ensures text { PutsText (W.seen sink.old) (W.seen sink.new) (line.now ++ (bytes.now ++ codes "\n")) result }
     ensures cause { HasCause (W.seen sink.old).faults (W.seen sink.new).faults result }
 {
-    match sink.put(line.as_bytes()) {
-        Ok(()) => put_ended(sink, bytes),
+    let mut buffer = PutBuffer::<TEXT_ROOM>::new();
+    match put_with_data(&mut buffer, sink, line.as_bytes(), bytes) {
+        Ok(()) => buffer.flush(sink),
         Err(SinkFault) => Err(SinkFault),
     }
 }

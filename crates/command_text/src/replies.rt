@@ -1,7 +1,8 @@
 //! Answers become one text.
-ghost use Rattle.std.specs.Prelude.{◌≡◌, ◌++◌, length, codes, IfOk, IsErr, IsErrOf};
+ghost use Rattle.std.specs.Prelude.{◌≡◌, ◌++◌, [], length, codes, IfOk, IsErr, IsErrOf};
 ghost use Rattle.std.specs.List.{flat_map};
 ghost use Rattle.vol_numbers.specs.Cause.{HasCause};
+ghost use Rattle.wire_ends.specs.Buffer.{PutsThrough};
 ghost use Rattle.command_text.specs.Putting.{PutsText, PutsAnswer, HasPutCause};
 ghost use Rattle.command_text.specs.Replies.{piece_text, line_text, counted_text, report_text, reply_text, answer_text, IsListText, HasEntries};
 ghost use Rattle.std.specs.String.{string_bytes};
@@ -9,93 +10,225 @@ ghost use Rattle.command_text.specs.declared.fault.PutFault.TheVariants.{OutOfMe
 
 use crate::PutFault;
 use crate::entries::entries_text;
-use crate::reply::{put_count, put_line, put_piece, put_point, put_refusal, put_space, put_stat};
+use crate::line_end::LONGEST_LINE;
+use crate::reply::{
+    change_line, count_line, piece_line, point_line, refusal_line, space_line, stat_line,
+};
+use crate::text_line::{LINE_ROOM, TextLine};
 use std::alloc::{AllocError, Global};
-use tree_model::{Answer, Line, Piece, Reply, Report};
-use wire_ends::{Sink, SinkFault};
+use tree_model::{Answer, Line, MOST_BYTES, Piece, Reply, Report};
+use wire_ends::{PutBuffer, Sink, SinkFault};
 
-fn put_pieces<W: Sink>(sink: &mut W, pieces: &[Piece]) -> Result<(), SinkFault>
-    ensures text { PutsText (W.seen sink.old) (W.seen sink.new) (flat_map piece_text pieces.now) result }
+/// Room for a line, and for as many bytes as a read or a write has at most.
+pub(crate) const TEXT_ROOM: usize = LONGEST_LINE + MOST_BYTES;
+
+fn put_line<W: Sink, const ROOM: usize>(
+    buffer: &mut PutBuffer<ROOM>,
+    sink: &mut W,
+    line: &TextLine,
+) -> Result<(), SinkFault>
+    ensures text { PutsThrough (W.seen sink.old) (W.seen sink.new) buffer.old buffer.new line.now result }
+    ensures cause { HasCause (W.seen sink.old).faults (W.seen sink.new).faults result }
+{
+    buffer.put(sink, line.as_bytes())
+}
+
+fn put_pieces<W: Sink, const ROOM: usize>(
+    buffer: &mut PutBuffer<ROOM>,
+    sink: &mut W,
+    pieces: &[Piece],
+) -> Result<(), SinkFault>
+    ensures text { PutsThrough (W.seen sink.old) (W.seen sink.new) buffer.old buffer.new (flat_map piece_text pieces.now) result }
     ensures cause { HasCause (W.seen sink.old).faults (W.seen sink.new).faults result }
 {
     for piece in pieces {
-        if let Err(SinkFault) = put_piece(sink, piece) {
+        if let Err(SinkFault) = put_line(buffer, sink, &piece_line(piece)) {
             return Err(SinkFault);
         }
     }
     Ok(())
 }
 
-fn put_lines<W: Sink>(sink: &mut W, lines: &[Line]) -> Result<(), SinkFault>
-    ensures text { PutsText (W.seen sink.old) (W.seen sink.new) (flat_map line_text lines.now) result }
+fn put_lines<W: Sink, const ROOM: usize>(
+    buffer: &mut PutBuffer<ROOM>,
+    sink: &mut W,
+    lines: &[Line],
+) -> Result<(), SinkFault>
+    ensures text { PutsThrough (W.seen sink.old) (W.seen sink.new) buffer.old buffer.new (flat_map line_text lines.now) result }
     ensures cause { HasCause (W.seen sink.old).faults (W.seen sink.new).faults result }
 {
     for line in lines {
-        if let Err(SinkFault) = put_line(sink, line) {
+        if let Err(SinkFault) = put_line(buffer, sink, &change_line(line)) {
             return Err(SinkFault);
         }
     }
     Ok(())
 }
 
-fn put_report<W: Sink>(sink: &mut W, report: &Option<Report>) -> Result<(), SinkFault>
-    ensures text { PutsText (W.seen sink.old) (W.seen sink.new) (report_text report.now) result }
+fn put_report<W: Sink, const ROOM: usize>(
+    buffer: &mut PutBuffer<ROOM>,
+    sink: &mut W,
+    report: &Option<Report>,
+) -> Result<(), SinkFault>
+    ensures text { PutsThrough (W.seen sink.old) (W.seen sink.new) buffer.old buffer.new (report_text report.now) result }
     ensures cause { HasCause (W.seen sink.old).faults (W.seen sink.new).faults result }
 {
     let Some(report) = report else {
         return Ok(());
     };
-    match put_point(sink, report) {
-        Ok(()) => put_lines(sink, report.lines.as_slice()),
+    match put_line(buffer, sink, &point_line(report)) {
+        Ok(()) => put_lines(buffer, sink, report.lines.as_slice()),
         Err(SinkFault) => Err(SinkFault),
     }
 }
 
-fn put_layout<W: Sink>(sink: &mut W, pieces: &[Piece]) -> Result<(), SinkFault>
-    ensures text { PutsText (W.seen sink.old) (W.seen sink.new) (counted_text (codes "layout ") (length pieces.now) ++ flat_map piece_text pieces.now) result }
+fn put_layout<W: Sink, const ROOM: usize>(
+    buffer: &mut PutBuffer<ROOM>,
+    sink: &mut W,
+    pieces: &[Piece],
+) -> Result<(), SinkFault>
+    ensures text { PutsThrough (W.seen sink.old) (W.seen sink.new) buffer.old buffer.new (counted_text (codes "layout ") (length pieces.now) ++ flat_map piece_text pieces.now) result }
     ensures cause { HasCause (W.seen sink.old).faults (W.seen sink.new).faults result }
 {
-    match put_count(sink, "layout ", pieces.len()) {
-        Ok(()) => put_pieces(sink, pieces),
+    match put_line(buffer, sink, &count_line("layout ", pieces.len())) {
+        Ok(()) => put_pieces(buffer, sink, pieces),
         Err(SinkFault) => Err(SinkFault),
     }
 }
 
-fn put_data<W: Sink>(sink: &mut W, bytes: &[u8]) -> Result<(), SinkFault>
-    ensures text { PutsText (W.seen sink.old) (W.seen sink.new) (counted_text (codes "data ") (length bytes.now) ++ (bytes.now ++ codes "\n")) result }
+fn put_data<W: Sink, const ROOM: usize>(
+    buffer: &mut PutBuffer<ROOM>,
+    sink: &mut W,
+    bytes: &[u8],
+) -> Result<(), SinkFault>
+    ensures text { PutsThrough (W.seen sink.old) (W.seen sink.new) buffer.old buffer.new (counted_text (codes "data ") (length bytes.now) ++ (bytes.now ++ codes "\n")) result }
     ensures cause { HasCause (W.seen sink.old).faults (W.seen sink.new).faults result }
 {
-    match put_count(sink, "data ", bytes.len()) {
-        Ok(()) => put_ended(sink, bytes),
+    put_with_data(
+        buffer,
+        sink,
+        count_line("data ", bytes.len()).as_bytes(),
+        bytes,
+    )
+}
+
+/// Puts a line, and behind it bytes and a newline.
+pub(crate) fn put_with_data<W: Sink, const ROOM: usize>(
+    buffer: &mut PutBuffer<ROOM>,
+    sink: &mut W,
+    line: &[u8],
+    bytes: &[u8],
+) -> Result<(), SinkFault>
+    ensures text { PutsThrough (W.seen sink.old) (W.seen sink.new) buffer.old buffer.new (line.now ++ (bytes.now ++ codes "\n")) result }
+    ensures cause { HasCause (W.seen sink.old).faults (W.seen sink.new).faults result }
+{
+    match buffer.put(sink, line) {
+        Ok(()) => put_ended(buffer, sink, bytes),
         Err(SinkFault) => Err(SinkFault),
     }
 }
 
 /// Puts bytes and a newline.
-pub(crate) fn put_ended<W: Sink>(sink: &mut W, bytes: &[u8]) -> Result<(), SinkFault>
-    ensures text { PutsText (W.seen sink.old) (W.seen sink.new) (bytes.now ++ codes "\n") result }
+fn put_ended<W: Sink, const ROOM: usize>(
+    buffer: &mut PutBuffer<ROOM>,
+    sink: &mut W,
+    bytes: &[u8],
+) -> Result<(), SinkFault>
+    ensures text { PutsThrough (W.seen sink.old) (W.seen sink.new) buffer.old buffer.new (bytes.now ++ codes "\n") result }
     ensures cause { HasCause (W.seen sink.old).faults (W.seen sink.new).faults result }
 {
-    match sink.put(bytes) {
-        Ok(()) => sink.put(b"\n"),
+    match buffer.put(sink, bytes) {
+        Ok(()) => buffer.put(sink, b"\n"),
         Err(SinkFault) => Err(SinkFault),
     }
 }
 
-/// Puts a reply that needs no memory for its text. The text of a list is given.
-fn put_reply<W: Sink>(sink: &mut W, reply: &Reply, list: &str) -> Result<(), SinkFault>
+/// Puts a reply. The text of a list is given.
+fn put_reply<W: Sink, const ROOM: usize>(
+    buffer: &mut PutBuffer<ROOM>,
+    sink: &mut W,
+    reply: &Reply,
+    list: &str,
+) -> Result<(), SinkFault>
     requires { IsListText reply.now list.now }
-    ensures text { PutsText (W.seen sink.old) (W.seen sink.new) (reply_text reply.now) result }
+    ensures text { PutsThrough (W.seen sink.old) (W.seen sink.new) buffer.old buffer.new (reply_text reply.now) result }
     ensures cause { HasCause (W.seen sink.old).faults (W.seen sink.new).faults result }
 {
     match reply {
-        Reply::Done => sink.put(b"ok\n"),
-        Reply::Data(bytes) => put_data(sink, bytes.as_slice()),
-        Reply::Entries(_) => sink.put(list.as_bytes()),
-        Reply::Stat { kind, number, size } => put_stat(sink, *kind, *number, *size),
-        Reply::Layout(pieces) => put_layout(sink, pieces.as_slice()),
-        Reply::Space { free, pending, log } => put_space(sink, *free, *pending, *log),
-        Reply::Refused(refusal) => put_refusal(sink, *refusal),
+        Reply::Done => put_line(buffer, sink, &TextLine::of("ok\n")),
+        Reply::Data(bytes) => put_data(buffer, sink, bytes.as_slice()),
+        Reply::Entries(_) => buffer.put(sink, list.as_bytes()),
+        Reply::Stat { kind, number, size } => {
+            put_line(buffer, sink, &stat_line(*kind, *number, *size))
+        }
+        Reply::Layout(pieces) => put_layout(buffer, sink, pieces.as_slice()),
+        Reply::Space { free, pending, log } => {
+            put_line(buffer, sink, &space_line(*free, *pending, *log))
+        }
+        Reply::Refused(refusal) => put_line(buffer, sink, &refusal_line(*refusal)),
+    }
+}
+
+/// Puts an answer by way of a buffer. The text of a list is given.
+fn put_parts<W: Sink, const ROOM: usize>(
+    buffer: &mut PutBuffer<ROOM>,
+    sink: &mut W,
+    answer: &Answer,
+    list: &str,
+) -> Result<(), SinkFault>
+    requires { IsListText answer.now.reply list.now }
+    ensures text { PutsThrough (W.seen sink.old) (W.seen sink.new) buffer.old buffer.new (answer_text answer.now) result }
+    ensures cause { HasCause (W.seen sink.old).faults (W.seen sink.new).faults result }
+{
+    match put_report(buffer, sink, &answer.report) {
+        Ok(()) => put_reply(buffer, sink, &answer.reply, list),
+        Err(SinkFault) => Err(SinkFault),
+    }
+}
+
+/// Puts an answer by way of an empty buffer, so that an answer that has room there is one put.
+fn put_answer<W: Sink, const ROOM: usize>(
+    buffer: &mut PutBuffer<ROOM>,
+    sink: &mut W,
+    answer: &Answer,
+    list: &str,
+) -> Result<(), SinkFault>
+    requires empty { buffer.old ≡ [] }
+    requires list { IsListText answer.now.reply list.now }
+    ensures text { PutsText (W.seen sink.old) (W.seen sink.new) (answer_text answer.now) result }
+    ensures cause { HasCause (W.seen sink.old).faults (W.seen sink.new).faults result }
+{
+    match put_parts(buffer, sink, answer, list) {
+        Ok(()) => buffer.flush(sink),
+        Err(SinkFault) => Err(SinkFault),
+    }
+}
+
+/// Puts an answer that is one line, or the text of a list, which passes a full buffer by.
+fn put_short<W: Sink>(sink: &mut W, answer: &Answer, list: &str) -> Result<(), SinkFault>
+    requires { IsListText answer.now.reply list.now }
+    ensures text { PutsText (W.seen sink.old) (W.seen sink.new) (answer_text answer.now) result }
+    ensures cause { HasCause (W.seen sink.old).faults (W.seen sink.new).faults result }
+{
+    let mut buffer = PutBuffer::<LINE_ROOM>::new();
+    put_answer(&mut buffer, sink, answer, list)
+}
+
+/// Puts an answer of any length.
+fn put_long<W: Sink>(sink: &mut W, answer: &Answer, list: &str) -> Result<(), SinkFault>
+    requires { IsListText answer.now.reply list.now }
+    ensures text { PutsText (W.seen sink.old) (W.seen sink.new) (answer_text answer.now) result }
+    ensures cause { HasCause (W.seen sink.old).faults (W.seen sink.new).faults result }
+{
+    let mut buffer = PutBuffer::<TEXT_ROOM>::new();
+    put_answer(&mut buffer, sink, answer, list)
+}
+
+/// Whether an answer is one line, or the text of a list.
+fn is_line_or_list(answer: &Answer) -> bool {
+    match answer.reply {
+        Reply::Data(_) | Reply::Layout(_) => false,
+        _ => answer.report.is_none(),
     }
 }
 
@@ -110,7 +243,7 @@ fn list_text(alloc: Global, reply: &Reply) -> Result<String, AllocError>
     }
 }
 
-/// Appends the text of an answer to the sink.
+/// Appends the text of an answer to the sink, in one put where it has at most 73,728 bytes or is a list.
 ///
 /// # Errors
 ///
@@ -124,20 +257,13 @@ pub fn write_reply<W: Sink>(alloc: Global, sink: &mut W, answer: &Answer) -> Res
     let Ok(list) = list_text(alloc, &answer.reply) else {
         return Err(PutFault::OutOfMemory);
     };
-    match put_answer(sink, answer, list.as_str()) {
+    let done = if is_line_or_list(answer) {
+        put_short(sink, answer, list.as_str())
+    } else {
+        put_long(sink, answer, list.as_str())
+    };
+    match done {
         Ok(()) => Ok(()),
         Err(SinkFault) => Err(PutFault::Sink),
-    }
-}
-
-/// Puts an answer. The text of a list is given.
-fn put_answer<W: Sink>(sink: &mut W, answer: &Answer, list: &str) -> Result<(), SinkFault>
-    requires { IsListText answer.now.reply list.now }
-    ensures text { PutsText (W.seen sink.old) (W.seen sink.new) (answer_text answer.now) result }
-    ensures cause { HasCause (W.seen sink.old).faults (W.seen sink.new).faults result }
-{
-    match put_report(sink, &answer.report) {
-        Ok(()) => put_reply(sink, &answer.reply, list),
-        Err(SinkFault) => Err(SinkFault),
     }
 }

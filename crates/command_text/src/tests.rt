@@ -1,13 +1,15 @@
 //! Sessions and answers by tables.
 use crate::{CommandReader, Item, TextFault, print_command, write_reply};
 use std::alloc::Global;
+use std::io;
+use std::io::Write;
 use std::test::Fail;
 use tree_model::{
     Answer, Entry, EntryList, Kind, Line, LineKind, LineList, Piece, PieceList, Refusal, Reply,
     Report,
 };
 use vol_numbers::{ByteList, CallList, Name};
-use wire_ends::{MemSink, MemSource, Sink};
+use wire_ends::{MemSink, MemSource, Sink, StdSink};
 
 const BAD_COMMAND: &[u8] = b"refused 1 BadCommand\n";
 
@@ -372,5 +374,101 @@ fn refusals_have_their_names(rt: HostRuntime) -> Result<(), Fail> {
         )?;
         assert!(rt; text.as_slice() == want);
     }
+    Ok(())
+}
+
+/// Takes all of each write, and keeps how long each one was.
+#[derive(Drop)]
+struct Lengths {
+    writes: Vec<usize>,
+}
+
+impl Write for Lengths {
+    fn write(&mut self, buf: &[u8]) -> io::Result<usize> {
+        self.writes.push(buf.len())?;
+        Ok(buf.len())
+    }
+
+    fn flush(&mut self) -> io::Result<()> {
+        Ok(())
+    }
+}
+
+/// How long the writes of an answer are.
+fn writes_of(alloc: Global, report: Option<Report>, reply: Reply) -> Result<Vec<usize>, Fail> {
+    let lengths = Lengths {
+        writes: Vec::new(alloc),
+    };
+    let mut sink = StdSink::new(lengths);
+    write_reply(alloc, &mut sink, &Answer { report, reply })?;
+    Ok(sink.writer().writes.clone()?)
+}
+
+/// Bytes of a file.
+fn data_of(alloc: Global, count: usize) -> Result<Reply, Fail> {
+    let bytes = vec![in alloc; b'x'; count]?;
+    Ok(Reply::Data(ByteList::from_vec(bytes)))
+}
+
+/// So many entries with names of 200 bytes.
+fn long_list(alloc: Global, count: usize) -> Result<Reply, Fail> {
+    let mut entries = Vec::new(alloc);
+    let name = name(&[b'n'; 200])?;
+    for _ in 0..count {
+        let kind = Kind::File;
+        entries.push(Entry {
+            kind,
+            number: 9,
+            name,
+        })?;
+    }
+    Ok(Reply::Entries(EntryList::from_vec(entries)))
+}
+
+/// So many pieces with lines of 10 bytes.
+fn long_layout(alloc: Global, count: usize) -> Result<Reply, Fail> {
+    let mut pieces = Vec::new(alloc);
+    for _ in 0..count {
+        pieces.push(Piece::Dirty {
+            place: 5,
+            length: 7,
+        })?;
+    }
+    Ok(Reply::Layout(PieceList::from_vec(pieces)))
+}
+
+#[test]
+fn answers_are_one_write(rt: HostRuntime) -> Result<(), Fail> {
+    let alloc = rt.alloc();
+    let rows: [(Option<Report>, Reply, usize); 10] = [
+        (None, Reply::Done, 3),
+        (None, Reply::Refused(Refusal::BadName), 18),
+        (None, data_of(alloc, 0)?, 8),
+        (None, data_of(alloc, 5)?, 13),
+        (None, data_of(alloc, 65_536)?, 65_548),
+        (None, listed(alloc)?, 32),
+        (None, long_list(alloc, 1_000)?, 205_010),
+        (None, laid_out(alloc)?, 31),
+        (None, long_layout(alloc, 7_000)?, 70_012),
+        (Some(report(alloc)?), Reply::Done, 87),
+    ];
+    for (report, reply, count) in rows {
+        let writes = writes_of(alloc, report, reply)?;
+        assert!(rt; writes.as_slice() == [count].as_slice(), "{count}");
+    }
+    Ok(())
+}
+
+#[test]
+fn long_layouts_are_long_writes(rt: HostRuntime) -> Result<(), Fail> {
+    let alloc = rt.alloc();
+    let writes = writes_of(alloc, None, long_layout(alloc, 20_000)?)?;
+    let mut total = 0usize;
+    for length in &writes {
+        total = total.saturating_add(*length);
+    }
+    assert_eq!(rt; total, 200_013);
+    assert_eq!(rt; writes.len(), 3);
+    assert!(rt; writes.iter().take(2).all(|length| *length >= 65_536));
     Ok(())
 }

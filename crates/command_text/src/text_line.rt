@@ -1,17 +1,17 @@
 //! A line that is put together without memory.
 ghost use Rattle.std.specs.Prelude.{◌≡◌, ◌≤◌, ◌+◌, ◌++◌, [], length, decimal};
-ghost use Rattle.vol_numbers.specs.Cause.{HasCause};
-ghost use Rattle.command_text.specs.Putting.{PutsText};
 
 use arrayvec::ArrayString;
 use itoa::Buffer;
 use std::marker::Model;
-use wire_ends::{Sink, SinkFault};
+
+/// How many bytes a line of an answer has at most, if it has no name.
+pub(crate) const LINE_ROOM: usize = 160;
 
 /// A line of at most 160 bytes.
 #[derive(Drop)]
 pub(crate) struct TextLine {
-    text: ArrayString<160>,
+    text: ArrayString<LINE_ROOM>,
 }
 
 impl Model for TextLine {
@@ -29,6 +29,16 @@ impl TextLine {
         TextLine {
             text: ArrayString::new(),
         }
+    }
+
+    /// A line of this text.
+    pub(crate) fn of(text: &str) -> TextLine
+        requires { length text.now ≤ 160 }
+        ensures { result ≡ text.now }
+    {
+        let mut line = TextLine::new();
+        line.text(text);
+        line
     }
 
     pub(crate) fn text(&mut self, text: &str)
@@ -50,10 +60,9 @@ impl TextLine {
         self.text.push_str(digits.format(number));
     }
 
-    pub(crate) fn put<W: Sink>(&self, sink: &mut W) -> Result<(), SinkFault>
-        ensures text { PutsText (W.seen sink.old) (W.seen sink.new) self.now result }
-        ensures cause { HasCause (W.seen sink.old).faults (W.seen sink.new).faults result }
+    pub(crate) fn as_bytes(&self) -> &[u8]
+        ensures { result.now ≡ self.now }
     {
-        sink.put(self.text.as_str().as_bytes())
+        self.text.as_str().as_bytes()
     }
 }

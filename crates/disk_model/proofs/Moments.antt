@@ -53,6 +53,10 @@ kept_in_image s at block image k is ne was_synced =
 pub image_unsynced : (s : State) (image : List Block) → IsImage (synced s) image → IsImage s image
 image_unsynced s image is = record { as_long = is.as_long; agrees = λ at was_synced. is.agrees at refl }
 
+-- one read more, where nothing has changed the state that is s
+pub adds_read : {old mid new : Past} {before s : State} → Adds old mid (λ m. m ≡ s) → before ≡ s → Adds mid new (λ m. m ≡ before) → Adds old new (λ m. m ≡ s)
+adds_read so_far is call = adds_then so_far call (λ m e. e ∙ is)
+
 -- one write more, from a state that is s
 pub adds_write : {old mid new : Past} {before : State} {at : ℕ} (Q : State → Type 0) (s : State) → Adds old mid Q → before ≡ s → Adds mid new (DuringWrite at before) → ((torn : Block) → Q (written at torn s)) → Adds old new Q
 adds_write {at = at} Q s so_far is call here =

@@ -1,10 +1,9 @@
 -- What a volume answers, by cases on the command.
-use Rattle.std.proofs.Common.{◌≡◌, ◌∙◌, ◌⊎◌, ⊎_elim, inl, inr, ℕ, ◌+◌, ◌-◌, ◌≤◌, ◌<◌, Bool, true, false, List, [], ◌∷◌, length, Option, Some, None, Result, Ok, Err, refl, sym, ap, subst, arith}
-use Rattle.std.specs.Prelude.{IsTrue, IfOk, OnErr, nat_le, nat_lt, ◌||◌, not, is_some, is_err}
+use Rattle.std.proofs.Common.{◌≡◌, ◌∙◌, ⊎_elim, inl, ℕ, ◌+◌, ◌≤◌, ◌<◌, Bool, true, false, List, [], ◌∷◌, length, Option, Some, None, Result, Ok, Err, refl, sym, ap, subst, arith}
+use Rattle.std.specs.Prelude.{IfOk, OnErr, ◌||◌, not, is_some, is_err}
 use Rattle.std.specs.Result.{result_err}
 use Rattle.std.proofs.lemmas.Bool.Decides.{nat_tests}
 use Rattle.vol_numbers.specs.declared.block.Block.{Block}
-use Rattle.disk_model.specs.Disk.{State}
 use Rattle.std.proofs.lemmas.Bool.{false≢true}
 use Rattle.tree_model.specs.Path.{Path, is_root, parent_of}
 use Rattle.tree_model.specs.Shape.{IsTree}
@@ -18,7 +17,7 @@ use Rattle.tree_model.specs.declared.node.Content.TheVariants.{File, Directory}
 use Rattle.tree_model.specs.declared.refusal.Refusal.{Refusal}
 use Rattle.tree_model.specs.declared.refusal.Refusal.TheVariants.{NotFound, NotADirectory, Exists}
 use Rattle.tree_model.specs.Shape.{shape_of}
-use Rattle.tree_model.specs.Step.{step, attempt, refusal_of, or_refuse, refuse_if, walk, bytes_of, ◌>>=◌, is_plain, is_change}
+use Rattle.tree_model.specs.Step.{step, refusal_of, or_refuse, refuse_if, walk, bytes_of, ◌>>=◌, is_plain, is_change}
 use Rattle.tree_model.proofs.AttemptLaws.{reading_leaves}
 use Rattle.tree_model.proofs.RefusalLaws.{refusal_tells, changes_are_done}
 use Rattle.tree_model.proofs.RenameLaws.{keeps_trees}
@@ -27,9 +26,8 @@ use Rattle.log_volume.specs.Answers.{Legal, reply_to, with_room, has_room, accep
 use Rattle.log_volume.specs.Fits.{StandsForSome}
 use Rattle.log_volume.specs.Image.{Stands}
 use Rattle.log_volume.specs.Logging.{KeepsOrNext}
-use Rattle.log_volume.specs.Replay.{Kept, and_command, after, IsDone}
+use Rattle.log_volume.specs.Replay.{Kept, IsDone}
 use Rattle.log_volume.proofs.ImageLaws.{kept_stands, next_stands}
-use Rattle.log_volume.specs.declared.answer.Answer.{Answer}
 use Rattle.log_volume.specs.declared.answer.Answer.TheVariants.{Reply, LogFull}
 
 -- a change is of the tree

@@ -1,5 +1,5 @@
 -- An image in which something is found stands for nothing.
-use Rattle.std.proofs.Common.{◌≡◌, ◌<◌, ◌≤◌, ◌+◌, ⊎_elim, ℕ, List, [], ◌∷◌, ◌++◌, length, refl, sym, ◌∙◌, ap, subst, arith}
+use Rattle.std.proofs.Common.{◌≡◌, ◌<◌, ◌≤◌, ◌+◌, ⊎_elim, ℕ, List, [], ◌∷◌, ◌++◌, length, sym, ◌∙◌, ap, subst, arith}
 use Rattle.vol_numbers.specs.Layout.{log_start}
 use Rattle.vol_numbers.specs.declared.block.Block.{Block}
 use Rattle.tree_model.specs.declared.command.Command.{Command}
@@ -8,7 +8,7 @@ use Rattle.op_log.specs.Record.{record_blocks}
 use Rattle.op_log.proofs.LogLemmas.{one_log}
 use Rattle.op_log.proofs.SpellingLaws.{one_command}
 use Rattle.log_volume.specs.Finding.{HasBadLog}
-use Rattle.log_volume.specs.Image.{Stands, Logs, layout_in, records_in, used_in}
+use Rattle.log_volume.specs.Image.{Logs, layout_in, records_in, used_in}
 use Rattle.log_volume.specs.Laws.{FindsNothing}
 use Rattle.log_volume.specs.Replay.{Kept, nothing_kept, and_command, after, IsDone, DoesEach}
 use Rattle.log_volume.specs.declared.finding.Finding.TheVariants.{NoRoot, BadGeometry, Unbuilt, BadLog}

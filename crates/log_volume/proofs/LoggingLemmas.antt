@@ -1,5 +1,5 @@
 -- What the images hold while a record is written and a root that counts it is switched to.
-use Rattle.std.proofs.Common.{◌≡◌, ◌≢◌, ◌∙◌, ◌⊎◌, ⊎_elim, inl, inr, ◌+◌, ◌-◌, ◌%◌, ◌<◌, ◌≤◌, ℕ, false, List, [], length, Option, refl, sym, ap, subst, arith}
+use Rattle.std.proofs.Common.{◌≡◌, ◌∙◌, ⊎_elim, inl, inr, ◌+◌, ◌-◌, ◌%◌, ◌<◌, ◌≤◌, ℕ, false, List, length, Option, sym, ap, subst, arith}
 use Rattle.std.specs.Prelude.{slice_get, slice_index, option_map, unwrap_or}
 use Rattle.vol_numbers.specs.Block.{zero_block}
 use Rattle.vol_numbers.specs.Layout.{Layout, IsValid, log_start}

@@ -1,20 +1,13 @@
 -- What a mount reads, and what the image stands for.
-use Rattle.std.proofs.Common.{◌≡◌, ◌∙◌, ◌+◌, ◌↔◌, ℕ, Bool, List, Option, Some, sym, ap, subst, IsTrue}
+use Rattle.std.proofs.Common.{◌≡◌, ◌∙◌, ◌+◌, ◌↔◌, ℕ, Bool, List, Some, sym, ap, subst, IsTrue}
 use Rattle.std.specs.Prelude.{slice_get}
 use Rattle.vol_numbers.specs.Layout.{Layout, area_start}
 use Rattle.vol_numbers.specs.declared.block.Block.{Block}
-use Rattle.disk_model.specs.Disk.{State}
-use Rattle.disk_model.specs.Past.{Past, Adds}
-use Rattle.disk_model.proofs.Moments.{adds_then}
 use Rattle.root_switch.specs.Root.{Root}
 use Rattle.root_switch.specs.Current.{root_of_image}
 use Rattle.log_volume.specs.Blocks.{index_block, inode_block}
 use Rattle.log_volume.specs.Image.{IsBuilt, layout_in}
 use Rattle.log_volume.specs.Mounting.{HasFreshFields, HasCounts, HasInodes}
-
--- a read after calls that changed nothing
-pub adds_read : {old mid new : Past} {before s : State} → Adds old mid (λ m. m ≡ s) → before ≡ s → Adds mid new (λ m. m ≡ before) → Adds old new (λ m. m ≡ s)
-adds_read so_far same read = adds_then so_far read (λ m e. e ∙ same)
 
 -- both blocks stand there
 pub inodes_stand : (g : Layout) (image later : List Block) (at at_second : ℕ) (first second : Block) (is : Bool) → at ≡ area_start g → at_second ≡ area_start g + 1 → first ≡ inode_block → second ≡ index_block g

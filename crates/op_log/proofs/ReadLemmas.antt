@@ -6,18 +6,11 @@ use Rattle.std.proofs.lemmas.List.{drop-append-le, drop-take, get_or_append_left
 use Rattle.byteorder.specs.Endian.{little_number}
 use Rattle.byteorder.specs.Numbers.{little_from-append}
 use Rattle.vol_numbers.specs.declared.block.Block.{Block}
-use Rattle.disk_model.specs.Disk.{State}
-use Rattle.disk_model.specs.Past.{Past, Adds}
-use Rattle.disk_model.proofs.Moments.{adds_then}
 use Rattle.tree_model.specs.declared.command.Command.{Command}
 use Rattle.op_log.specs.Log.{RecordStands}
 use Rattle.op_log.specs.Record.{HasRecord, record_block, record_blocks}
 use Rattle.op_log.specs.Reading.{AreBlocks, IsWhole, Spells, blocks_in, bytes_block, head_in}
 use Rattle.op_log.proofs.RecordLemmas.{first_head}
-
--- one read more
-pub adds_read : {old mid new : Past} {s before : State} → Adds old mid (λ m. m ≡ s) → before ≡ s → Adds mid new (λ m. m ≡ before) → Adds old new (λ m. m ≡ s)
-adds_read so_far is call = adds_then so_far call (λ m e. e ∙ is)
 
 pub if_none_weaker : {X P Q : Type 0} (o : Option X) → (P → Q) → IfNone o P → IfNone o Q
 if_none_weaker None f p = f p

@@ -2,12 +2,14 @@
 use crate::runs::{
     Ended, OK, calls, fresh, roomy, run_between, run_from, serve_over, source_of, times,
 };
-use command_server::{Status, mount, serve};
+use command_server::{Status, mount, run, serve};
 use disk_model::Media;
 use std::alloc::{AllocError, Global};
+use std::io;
+use std::io::Write;
 use std::test::Fail;
 use vol_numbers::{ByteList, CallList};
-use wire_ends::MemSource;
+use wire_ends::{MemSource, StdSink};
 
 /// The word of a session over the image `v`.
 const SERVE: [&str; 2] = ["serve", "v"];
@@ -168,5 +170,70 @@ fn ends_at_an_answer_without_effect_that_failed(rt: HostRuntime) -> Result<(), F
         assert!(rt; ended.is(Status::SinkFailed, b""), "at {input:?}");
     }
     assert!(rt; serve_over(alloc, &mut media, b"create /a\n")?.is(Status::Done, OK));
+    Ok(())
+}
+
+/// Keeps each write, and a bar behind it.
+#[derive(Drop)]
+struct Barred {
+    got: Vec<u8>,
+}
+
+impl Write for Barred {
+    fn write(&mut self, buf: &[u8]) -> io::Result<usize> {
+        self.got.extend_from_slice(buf)?;
+        self.got.push(b'|')?;
+        Ok(buf.len())
+    }
+
+    fn flush(&mut self) -> io::Result<()> {
+        Ok(())
+    }
+}
+
+const EACH_KIND: &[u8] = b"mkdir /d
+write /d 0 0
+
+create /d/a
+write /d/a 0 6
+ab
+cd
+
+read /d/a 0 9
+read /d/a 6 9
+list /d
+stat /d/a
+chmod /d
+end
+";
+
+const EACH_ANSWER: &[u8] = b"ok
+|refused 5 IsADirectory
+|ok
+|ok
+|data 6
+ab
+cd
+
+|data 0
+
+|list 1
+f 3 a
+|stat f 3 6
+|refused 1 BadCommand
+|ok
+|";
+
+#[test]
+fn writes_each_answer_at_once(rt: HostRuntime) -> Result<(), Fail> {
+    let alloc = rt.alloc();
+    let mut media = fresh(alloc)?;
+    let mut source = source_of(alloc, EACH_KIND, &[])?;
+    let mut sink = StdSink::new(Barred {
+        got: Vec::new(alloc),
+    });
+    let status = run(alloc, &SERVE, &mut media, &mut source, &mut sink);
+    assert!(rt; status == Status::Done);
+    assert!(rt; sink.writer().got.as_slice() == EACH_ANSWER);
     Ok(())
 }

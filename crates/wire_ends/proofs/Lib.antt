@@ -1,3 +1,4 @@
+pub mod BufferLemmas
 mod KnownLemmas
 pub mod PutLemmas
 pub mod TakeLemmas

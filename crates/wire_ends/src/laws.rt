@@ -1,5 +1,5 @@
 //! Laws of calls that follow one another.
-ghost use Rattle.wire_ends.specs.Laws.{TakesCompose, TakesWhole, PutsCompose, PartBehind, PartOfMore};
+ghost use Rattle.wire_ends.specs.Laws.{TakesCompose, TakesWhole, PutsCompose, PartBehind, PartOfMore, PassesCompose, PassesWhole, PassesPart};
 
 /// What two calls took in a row is one piece.
 pub fn takes_compose()
@@ -24,4 +24,19 @@ pub fn part_behind()
 /// Where the rest isn't tried, a prefix of all the bytes stands as well.
 pub fn part_of_more()
     ensures { PartOfMore }
+{}
+
+/// What goes through a buffer in two calls in a row goes through as one.
+pub fn passes_compose()
+    ensures { PassesCompose }
+{}
+
+/// Once an empty buffer is let out again, all that went through it was put.
+pub fn passes_whole()
+    ensures { PassesWhole }
+{}
+
+/// Of a put that fails in a buffer behind others a prefix of all their bytes stands.
+pub fn passes_part()
+    ensures { PassesPart }
 {}

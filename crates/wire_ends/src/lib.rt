@@ -4,6 +4,7 @@
 mod laws;
 mod mem_sink;
 mod mem_source;
+mod put_buffer;
 mod sink;
 mod source;
 mod std_sink;
@@ -11,9 +12,13 @@ mod std_source;
 #[cfg(test)]
 mod tests;
 
-pub use laws::{part_behind, part_of_more, puts_compose, takes_compose, takes_whole};
+pub use laws::{
+    part_behind, part_of_more, passes_compose, passes_part, passes_whole, puts_compose,
+    takes_compose, takes_whole,
+};
 pub use mem_sink::MemSink;
 pub use mem_source::MemSource;
+pub use put_buffer::PutBuffer;
 pub use sink::{Sink, SinkFault};
 pub use source::{Source, SourceFault};
 pub use std_sink::StdSink;

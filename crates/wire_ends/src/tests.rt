@@ -1,5 +1,7 @@
 //! The ends in memory by tables, and the ends over std with readers and writers that fail.
-use crate::{MemSink, MemSource, Sink, SinkFault, Source, SourceFault, StdSink, StdSource};
+use crate::{
+    MemSink, MemSource, PutBuffer, Sink, SinkFault, Source, SourceFault, StdSink, StdSource,
+};
 use std::alloc::{AllocError, Global};
 use std::io;
 use std::io::{Read, Write};
@@ -87,6 +89,56 @@ fn memory_has_exact_room(rt: HostRuntime) -> Result<(), Fail> {
             assert!(rt; sink.put(bytes).is_ok() == *want, "room {room}");
         }
         assert!(rt; sink.bytes() == got, "room {room}");
+    }
+    Ok(())
+}
+
+/// Puts pieces by way of a buffer of four bytes, and lets out what it holds at last. How many of these calls fail, and what the sink got.
+fn through_four(
+    alloc: Global,
+    pieces: &[&[u8]],
+    fails: &[u64],
+) -> Result<(usize, Vec<u8>), AllocError> {
+    let fails = CallList::from_vec(fails.to_vec(alloc)?);
+    let mut sink = MemSink::new(alloc, 100, fails)?;
+    let mut buffer = PutBuffer::<4>::new();
+    let mut failed = 0usize;
+    for piece in pieces {
+        if buffer.put(&mut sink, piece).is_err() {
+            failed = failed.saturating_add(1);
+        }
+    }
+    if buffer.flush(&mut sink).is_err() {
+        failed = failed.saturating_add(1);
+    }
+    Ok((failed, sink.bytes().to_vec(alloc)?))
+}
+
+#[test]
+fn buffers_put_what_has_room_at_once(rt: HostRuntime) -> Result<(), Fail> {
+    // The pieces, the puts of the sink that fail; how many calls failed, and what the sink got.
+    let rows: [(&[&[u8]], &[u64], usize, &[u8]); 16] = [
+        (&[], &[0], 0, b""),
+        (&[b""], &[0], 0, b""),
+        (&[b"a", b"bc", b"d"], &[1], 0, b"abcd"),
+        (&[b"a", b"bc", b"d"], &[0], 1, b""),
+        (&[b"abcd"], &[1], 0, b"abcd"),
+        (&[b"abc", b"de"], &[2], 0, b"abcde"),
+        (&[b"abc", b"de"], &[0], 1, b""),
+        (&[b"abc", b"de"], &[1], 1, b"abc"),
+        (&[b"abc", b"de", b"f"], &[0], 1, b"f"),
+        (&[b"abcde"], &[1], 0, b"abcde"),
+        (&[b"abcde"], &[0], 1, b""),
+        (&[b"abcde", b"f"], &[2], 0, b"abcdef"),
+        (&[b"ab", b"cdefg"], &[2], 0, b"abcdefg"),
+        (&[b"ab", b"cdefg"], &[1], 1, b"ab"),
+        (&[b"ab", b"cdefg", b"h"], &[1], 1, b"abh"),
+        (&[b"ab", b"cdefg"], &[0], 1, b""),
+    ];
+    for (pieces, fails, failed, got) in rows {
+        let (count, bytes) = through_four(rt.alloc(), pieces, fails)?;
+        assert!(rt; count == failed, "{pieces:?}");
+        assert!(rt; bytes.as_slice() == got, "{pieces:?}");
     }
     Ok(())
 }

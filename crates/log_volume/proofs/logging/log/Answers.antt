@@ -1,11 +1,9 @@
 use Rattle.std.proofs.Common.{◌≡◌, ◌∙◌, ◌+◌, inl, ℕ, refl, ap}
 use Rattle.std.specs.Prelude.{Result, Ok, Err, OnErr}
-use Rattle.disk_model.specs.Disk.{State, EachImage}
-use Rattle.disk_model.specs.Past.{Adds}
 use Rattle.disk_model.proofs.Moments.{adds_then, adds_weaker}
-use Rattle.root_switch.specs.Root.{Root, root_of}
+use Rattle.root_switch.specs.Root.{root_of}
 use Rattle.log_volume.specs.Logging.{next_root}
-use Rattle.log_volume.proofs.LoggingLemmas.{kept_in, staged_current, any_keeps, switched_next, switched_current}
+use Rattle.log_volume.proofs.LoggingLemmas.{kept_in, any_keeps, switched_next}
 use Rattle.log_volume.proofs.logging.log.Goals as goal
 
 on_err : {T E P : Type 0} (r : Result T E) → P → OnErr r P

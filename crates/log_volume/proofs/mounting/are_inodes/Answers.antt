@@ -2,7 +2,8 @@ use Rattle.std.proofs.Common.{◌+◌, ap, ℕ}
 use Rattle.std.proofs.lemmas.Result.{IfOk-weaker}
 use Rattle.disk_model.specs.Disk.{State}
 use Rattle.vol_numbers.specs.Geometry.{layout_of}
-use Rattle.log_volume.proofs.MountLemmas.{adds_read, inodes_stand}
+use Rattle.disk_model.proofs.Moments.{adds_read}
+use Rattle.log_volume.proofs.MountLemmas.{inodes_stand}
 use Rattle.log_volume.proofs.mounting.are_inodes.Goals as goal
 
 pub returns-clause-are : goal.returns-clause-are

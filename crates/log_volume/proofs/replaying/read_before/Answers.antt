@@ -1,4 +1,4 @@
-use Rattle.std.proofs.Common.{◌≡◌, ◌<◌, ◌≤◌, ap, subst, arith, List}
+use Rattle.std.proofs.Common.{ap, subst, arith}
 use Rattle.vol_numbers.specs.Layout.{log_start}
 use Rattle.root_switch.specs.declared.root.RootBody.{RootBody}
 use Rattle.root_switch.specs.Root.{root_of}

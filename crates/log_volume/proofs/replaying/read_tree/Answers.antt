@@ -1,6 +1,5 @@
 use Rattle.std.proofs.Common.{◌≡◌, List, subst, arith}
 use Rattle.tree_model.specs.declared.command.Command.{Command}
-use Rattle.tree_model.specs.Tree.{Tree}
 use Rattle.log_volume.specs.Replay.{nothing_kept, after, DoesEach}
 use Rattle.log_volume.specs.Replaying.{IsRefusedAt}
 use Rattle.log_volume.proofs.ReplayLemmas.{refused_bad, first_bad_bad, all_logs}

@@ -11,7 +11,7 @@ use Rattle.op_log.specs.Log.{HoldsRecords, RecordStands, blocks_of}
 use Rattle.op_log.specs.Reading.{NoRecordStands}
 use Rattle.op_log.specs.Record.{HasRecord, record_blocks}
 use Rattle.op_log.proofs.LogLemmas.{blocks_of-push, first_bad, holds-push, pushed}
-use Rattle.op_log.proofs.ReadLemmas.{adds_read}
+use Rattle.disk_model.proofs.Moments.{adds_read}
 use Rattle.op_log.proofs.reading.read_all.Goals as goal
 
 pub returns-in-Ok-None-clause-bad_record : goal.returns-in-Ok-None-clause-bad_record

@@ -2,7 +2,8 @@ use Rattle.std.proofs.Common.{◌≡◌, ◌∙◌, ◌+◌, ℕ, List, length, 
 use Rattle.std.specs.Prelude.{slice_get, Some}
 use Rattle.vol_numbers.specs.declared.block.Block.{Block}
 use Rattle.disk_model.specs.Disk.{State}
-use Rattle.op_log.proofs.ReadLemmas.{adds_read, blocks_more, front_stays}
+use Rattle.disk_model.proofs.Moments.{adds_read}
+use Rattle.op_log.proofs.ReadLemmas.{blocks_more, front_stays}
 use Rattle.op_log.proofs.record_reading.read_up_to.Goals as goal
 
 pub loop-i-preserved : goal.loop-i-preserved

@@ -4,7 +4,8 @@ use Rattle.vol_numbers.specs.declared.block.Block.{Block}
 use Rattle.disk_model.specs.Disk.{State}
 use Rattle.op_log.specs.Reading.{AreBlocks, HasLimits, blocks_in, head_in}
 use Rattle.op_log.proofs.RecordLemmas.{first_limits}
-use Rattle.op_log.proofs.ReadLemmas.{adds_read, blocks_same, first_same, head_stays}
+use Rattle.disk_model.proofs.Moments.{adds_read}
+use Rattle.op_log.proofs.ReadLemmas.{blocks_same, first_same, head_stays}
 use Rattle.op_log.proofs.record_reading.record_bytes.Goals as goal
 
 pub returns-in_default-blocks-clause-none : goal.returns-in_default-blocks-clause-none

@@ -1,6 +1,5 @@
-use Rattle.std.proofs.Common.{◌≡◌, ◌∙◌, ◌+◌, ◌≤◌, ◌<◌, ◌-◌, inl, ℕ, List, [], ◌∷◌, None, Ok, Err, Result, refl, sym, ap, subst, arith}
-use Rattle.std.specs.Prelude.{OnErr}
-use Rattle.disk_model.specs.Disk.{State, EachImage}
+use Rattle.std.proofs.Common.{◌≡◌, ◌∙◌, ◌+◌, ◌≤◌, inl, List, None, sym, ap, subst, arith}
+use Rattle.disk_model.specs.Disk.{EachImage}
 use Rattle.disk_model.specs.Past.{Adds}
 use Rattle.disk_model.proofs.Moments.{adds_weaker}
 use Rattle.root_switch.specs.Root.{Root, root_of}

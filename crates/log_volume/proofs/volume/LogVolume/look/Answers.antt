@@ -1,4 +1,4 @@
-use Rattle.std.proofs.Common.{◌≡◌, ◌∙◌, inl, sym, ap}
+use Rattle.std.proofs.Common.{◌∙◌, ap}
 use Rattle.tree_model.specs.Tree.{Tree}
 use Rattle.root_switch.specs.Root.{root_of}
 use Rattle.log_volume.specs.Fits.{Volume}

@@ -1,7 +1,7 @@
 use Rattle.std.proofs.Common.{◌∙◌, sym, ap}
 use Rattle.command_text.specs.Numbers.{number_in, is_decimal}
 use Rattle.command_text.proofs.NumberLemmas.{number_read, no_number, decimal_is_text}
-use Rattle.command_text.proofs.number.number.Goals as goal
+use Rattle.command_text.proofs.number.read_number.Goals as goal
 
 pub returns-then-not-is_decimal : goal.returns-then-not-is_decimal
 returns-then-not-is_decimal c = sym (no_number c.args.field.now (sym c.is_decimal.ensures ∙ c.if-not-is_decimal.true))
