@@ -204,7 +204,7 @@ fn put_answer<W: Sink, const ROOM: usize>(
     }
 }
 
-/// Puts an answer that is one line, or the text of a list, which passes a full buffer by.
+/// Puts an answer that is one line, or the text of a list: a list for which there is no room is put as it is.
 fn put_short<W: Sink>(sink: &mut W, answer: &Answer, list: &str) -> Result<(), SinkFault>
     requires { IsListText answer.now.reply list.now }
     ensures text { PutsText (W.seen sink.old) (W.seen sink.new) (answer_text answer.now) result }
