@@ -2,7 +2,6 @@ pub mod Answering
 pub mod Asked
 pub mod Faults
 pub mod Items
-pub mod Putting
 pub mod Run
 pub mod Serves
 pub mod Serving

@@ -1,9 +1,8 @@
 //! The lines that a run writes.
 ghost use Rattle.std.specs.Prelude.{codes};
 ghost use Rattle.vol_numbers.specs.Cause.{HasCause};
-ghost use Rattle.command_text.specs.Putting.{PutsAnswer, HasPutCause};
+ghost use Rattle.command_text.specs.Putting.{PutsText, PutsAnswer, HasPutCause};
 ghost use Rattle.command_text.specs.Replies.{reply_text};
-ghost use Rattle.command_server.specs.Putting.{PutsText};
 ghost use Rattle.command_server.specs.Texts.{usage_text, formatted_text, finding_text, bad_log_text, text_of};
 
 use arrayvec::ArrayString;

@@ -243,7 +243,7 @@ fn list_text(alloc: Global, reply: &Reply) -> Result<String, AllocError>
     }
 }
 
-/// Appends the text of an answer to the sink, in one put where it has at most 73,728 bytes or is a list.
+/// Appends the text of an answer to the sink, in one put where it has at most 73,728 bytes or is a list without a report.
 ///
 /// # Errors
 ///

@@ -1,22 +1,10 @@
 -- What goes through a buffer in several calls.
-use Rattle.std.proofs.Common.{◌≡◌, ◌∙◌, ◌++◌, ℕ, List, [], sym, ap, subst, append_assoc, refl}
+use Rattle.std.proofs.Common.{◌≡◌, ◌∙◌, ◌++◌, ℕ, List, [], sym, ap, subst, append_assoc}
 use Rattle.std.specs.Prelude.{Result, Ok, Err, OnOk, OnErr}
 use Rattle.std.proofs.lemmas.List.{append-nil}
 use Rattle.wire_ends.specs.Buffer.{Passes, PutsThrough}
 use Rattle.wire_ends.specs.Ends.{Output, Puts, PutsPart}
-use Rattle.wire_ends.proofs.PutLemmas.{puts_none, puts_both, part_behind, part_of_more}
-
--- the bytes are held
-pub passes_held : (sink : Output) (held bytes : List ℕ) → Passes sink sink held (held ++ bytes) bytes
-passes_held sink held bytes = record { out = []; puts = puts_none sink; order = refl }
-
--- nothing goes through
-pub passes_none : (sink : Output) (held : List ℕ) → Passes sink sink held held []
-passes_none sink held = record { out = []; puts = puts_none sink; order = append-nil held }
-
--- what is held was let out first, and the bytes are held
-pub passes_behind : {old new : Output} {held : List ℕ} (bytes : List ℕ) → Puts old new held → Passes old new held bytes bytes
-passes_behind {held = held} bytes out = record { out = held; puts = out; order = refl }
+use Rattle.wire_ends.proofs.PutLemmas.{puts_both, part_behind, part_of_more}
 
 -- what is held was let out, and then the bytes
 pub passes_out : {old mid new : Output} {held rest bytes : List ℕ} → rest ≡ [] → Puts old mid held → Puts mid new bytes → Passes old new held rest bytes

@@ -1,5 +1,5 @@
 //! A buffer in front of a sink.
-ghost use Rattle.std.specs.Prelude.{◌≡◌, ◌≤◌, ◌+◌, ◌++◌, [], length, OnOk, OnErr, IsOk};
+ghost use Rattle.std.specs.Prelude.{◌≡◌, ◌≤◌, ◌+◌, ◌++◌, [], length, OnOk, OnErr};
 ghost use Rattle.vol_numbers.specs.Cause.{HasCause};
 ghost use Rattle.wire_ends.specs.Buffer.{Passes};
 ghost use Rattle.wire_ends.specs.Ends.{Puts, PutsPart};
