@@ -2,6 +2,7 @@
 ghost use Rattle.std.specs.Prelude.{◌≡◌, ◌↔◌, None, IsOk, IfSome, OnOk, OnErr};
 ghost use Rattle.vol_numbers.specs.Cause.{raised, HasCause};
 
+use crate::failure::{Failure, ImageCall};
 use crate::image::Image;
 use disk_model::{Disk, DiskFault, LastRead, Media, OpenFault};
 use std::fs::{File, Files};
@@ -15,6 +16,7 @@ pub struct FileMedia<R: Files<File = File>> {
     image: Option<Image>,
     pub(crate) faults: FaultCount,
     given: LastRead,
+    failure: Option<Failure>,
 }
 
 impl<R: Files<File = File>> FileMedia<R> {
@@ -33,11 +35,17 @@ impl<R: Files<File = File>> FileMedia<R> {
             image: None,
             faults: FaultCount::new(),
             given: LastRead::none(),
+            failure: None,
         }
     }
 
+    /// How the last call that failed did so, if one has.
+    pub(crate) fn failure(&self) -> Option<Failure> {
+        self.failure
+    }
+
     /// Closes the image that is open, and opens another. Where that fails nothing is open.
-    fn reopen(&mut self, name: &str, blocks: Option<u32>) -> io::Result<()>
+    fn reopen(&mut self, name: &str, blocks: Option<u32>) -> Result<(), Failure>
         ensures size { OnOk result (IfSome blocks (λ n. count_of self.new.image ≡ n)) }
         ensures none { OnErr result (self.new.image ≡ None) }
         ensures faults { self.new.faults ≡ self.old.faults }
@@ -50,18 +58,23 @@ impl<R: Files<File = File>> FileMedia<R> {
     }
 }
 
-/// Counts the fault of a call that failed.
-fn counted(faults: &mut FaultCount, done: io::Result<()>) -> Result<(), DiskFault>
+/// Counts the fault of a call that failed, and keeps how it did so.
+fn noted(
+    faults: &mut FaultCount,
+    failure: &mut Option<Failure>,
+    done: Result<(), Failure>,
+) -> Result<(), DiskFault>
     ensures same { IsOk result ↔ IsOk done }
-    ensures none { OnOk result (faults.new ≡ faults.old) }
-    ensures once { OnErr result (faults.new ≡ raised faults.old) }
     ensures cause { HasCause faults.old faults.new result }
 {
-    if done.is_err() {
-        faults.raise();
-        return Err(DiskFault);
+    match done {
+        Ok(()) => Ok(()),
+        Err(how) => {
+            *failure = Some(how);
+            faults.raise();
+            Err(DiskFault)
+        }
     }
-    Ok(())
 }
 
 impl<R: Files<File = File>> Disk for FileMedia<R> {
@@ -99,7 +112,7 @@ impl<R: Files<File = File>> Disk for FileMedia<R> {
             Some(image) => image.read(at, into),
             None => unreachable!(),
         };
-        counted(&mut self.faults, done)?;
+        noted(&mut self.faults, &mut self.failure, done)?;
         self.given.note(at, into);
         Ok(())
     }
@@ -109,15 +122,15 @@ impl<R: Files<File = File>> Disk for FileMedia<R> {
             Some(image) => image.write(at, from),
             None => unreachable!(),
         };
-        counted(&mut self.faults, done)
+        noted(&mut self.faults, &mut self.failure, done)
     }
 
     fn sync(&mut self) -> Result<(), DiskFault> {
         let done = match &self.image {
             Some(image) => image.sync(),
-            None => Err(io::ErrorKind::NotConnected.into()),
+            None => ImageCall::Sync.answered(Err(io::ErrorKind::NotConnected.into())),
         };
-        counted(&mut self.faults, done)
+        noted(&mut self.faults, &mut self.failure, done)
     }
 }
 
@@ -125,8 +138,9 @@ impl<R: Files<File = File>> Media for FileMedia<R> {
     fn open(&mut self, name: &str, blocks: Option<u32>) -> Result<(), OpenFault> {
         match self.reopen(name, blocks) {
             Ok(()) => Ok(()),
-            Err(error) if error.kind() == io::ErrorKind::OutOfMemory => Err(OpenFault::OutOfMemory),
-            Err(_) => {
+            Err(how) if how.is_want_of_memory() => Err(OpenFault::OutOfMemory),
+            Err(how) => {
+                self.failure = Some(how);
                 self.faults.raise();
                 Err(OpenFault::Failed)
             }

@@ -1,7 +1,7 @@
 //! A file that is open as an image: its lock, its length and its blocks.
 ghost use Rattle.std.specs.Prelude.{◌≡◌, ◌*◌, ◌/◌, ◌<◌, ◌^◌, ◌↔◌, IsOk, IfOk, IfSome};
-ghost use Rattle.std.specs.Fs.{metadata_len};
 
+use crate::failure::{Failure, ImageCall};
 use std::fs::{File, Files, OpenOptions};
 use std::io;
 use std::os::fd::AsRawFd;
@@ -17,38 +17,45 @@ pub(crate) struct Image {
 }
 
 impl Image {
-    /// Opens the file of this name. With a number of blocks the file is made or what is in it is dropped, and it has so many zero blocks.
+    /// Opens the file of this name, which no other server may have open. With a number of blocks the file is made, or what is in it is
+    /// dropped, and it has so many zero blocks. Without one it is taken as the disk has it.
     pub(crate) fn open<R: Files<File = File>>(
         rt: &R,
         name: &str,
         blocks: Option<u32>,
-    ) -> io::Result<Image>
+    ) -> Result<Image, Failure>
         ensures { IfOk result (λ image. IfSome blocks (λ n. image.count ≡ n)) }
     {
-        let file = open_locked(rt, name, blocks.is_some())?;
-        if let Some(blocks) = blocks {
-            file.set_len(0)?;
-            file.set_len(offset_of(blocks))?;
-            file.sync_all()?;
-            sync_folder(rt, name)?;
+        let file = open_file(rt, name, blocks.is_some())?;
+        lock(&file)?;
+        match blocks {
+            Some(blocks) => {
+                fill_with_zeros(&file, blocks)?;
+                sync_folder(rt, name)?;
+                Ok(Image {
+                    file,
+                    count: blocks,
+                })
+            }
+            None => {
+                settle(&file)?;
+                let count = whole_blocks_of(&file)?;
+                Ok(Image { file, count })
+            }
         }
-        let count = whole_blocks(file.metadata()?.len())?;
-        if blocks.is_some_and(|wanted| wanted != count) {
-            return Err(io::ErrorKind::InvalidData.into());
-        }
-        Ok(Image { file, count })
     }
 
-    pub(crate) fn read(&self, at: BlockNo, into: &mut Block) -> io::Result<()> {
-        self.file.read_exact_at(&mut into.bytes, offset_of(at))
+    pub(crate) fn read(&self, at: BlockNo, into: &mut Block) -> Result<(), Failure> {
+        ImageCall::Read(at).answered(self.file.read_exact_at(&mut into.bytes, offset_of(at)))
     }
 
-    pub(crate) fn write(&self, at: BlockNo, from: &Block) -> io::Result<()> {
-        self.file.write_all_at(&from.bytes, offset_of(at))
+    pub(crate) fn write(&self, at: BlockNo, from: &Block) -> Result<(), Failure> {
+        ImageCall::Write(at).answered(self.file.write_all_at(&from.bytes, offset_of(at)))
     }
 
-    pub(crate) fn sync(&self) -> io::Result<()> {
-        self.file.sync_all()
+    /// Has all written blocks on the disk. The length of an open image doesn't change, so nothing else of the file has to be written.
+    pub(crate) fn sync(&self) -> Result<(), Failure> {
+        ImageCall::Sync.answered(self.file.sync_data())
     }
 }
 
@@ -70,29 +77,70 @@ fn whole_blocks(len: u64) -> io::Result<u32>
     }
 }
 
-/// Opens a regular file for reading and writing, and takes the lock that only one open file has. Nothing in the file is changed.
-fn open_locked<R: Files<File = File>>(rt: &R, name: &str, may_make: bool) -> io::Result<File> {
-    let mut file = OpenOptions::new()
-        .read(true)
-        .write(true)
-        .create(may_make)
-        .open(rt, name)?;
-    // Where a standard stream was closed its number is free, and what is meant for that stream must not go into the image.
-    if file.as_raw_fd() <= 2 {
-        file = file.try_clone()?;
-    }
+fn whole_blocks_of(file: &File) -> Result<u32, Failure> {
+    let about = ImageCall::Measure.answered(file.metadata())?;
+    ImageCall::Measure.answered(whole_blocks(about.len()))
+}
+
+/// Opens a regular file for reading and writing. Nothing in the file is changed.
+fn open_file<R: Files<File = File>>(rt: &R, name: &str, may_make: bool) -> Result<File, Failure> {
+    let file = ImageCall::Open.answered(
+        OpenOptions::new()
+            .read(true)
+            .write(true)
+            .create(may_make)
+            .open(rt, name),
+    )?;
+    ImageCall::Open.answered(regular(file))
+}
+
+/// The file, if it is a regular one, under a number that no standard stream has: where such a stream was closed its number is free, and
+/// what is meant for that stream must not go into the image.
+fn regular(file: File) -> io::Result<File> {
     if !file.metadata()?.is_file() {
         return Err(io::ErrorKind::InvalidInput.into());
     }
-    file.try_lock()?;
+    if file.as_raw_fd() <= 2 {
+        return file.try_clone();
+    }
     Ok(file)
 }
 
+/// Takes the lock that only one open file has.
+fn lock(file: &File) -> Result<(), Failure> {
+    let taken = match file.try_lock() {
+        Ok(()) => Ok(()),
+        Err(error) => Err(error.into()),
+    };
+    ImageCall::Lock.answered(taken)
+}
+
+/// Drops what is in the file, and makes it so many zero blocks, which are on the disk.
+fn fill_with_zeros(file: &File, blocks: u32) -> Result<(), Failure> {
+    ImageCall::Resize.answered(file.set_len(0))?;
+    ImageCall::Resize.answered(file.set_len(offset_of(blocks)))?;
+    ImageCall::Sync.answered(file.sync_all())
+}
+
+/// Has the file read from the disk from here on. A sync of an earlier process may have failed, and then the system holds pages which it takes
+/// for written and the disk doesn't have. So all is written first, and then the copies in memory are dropped.
+fn settle(file: &File) -> Result<(), Failure> {
+    ImageCall::Sync.answered(file.sync_all())?;
+    let advised = libc::posix_fadvise(file.as_raw_fd(), 0, 0, libc::POSIX_FADV_DONTNEED);
+    let forgotten = if advised == 0 {
+        Ok(())
+    } else {
+        Err(io::Error::from_raw_os_error(advised))
+    };
+    ImageCall::Forget.answered(forgotten)
+}
+
 /// Has the file's entry on the disk, in the folder that it stands in.
-fn sync_folder<R: Files<File = File>>(rt: &R, name: &str) -> io::Result<()> {
+fn sync_folder<R: Files<File = File>>(rt: &R, name: &str) -> Result<(), Failure> {
     let folder = match Path::new(name).parent() {
         Some(folder) if !folder.as_str().is_empty() => folder,
         _ => Path::new("."),
     };
-    File::open(rt, folder)?.sync_all()
+    let opened = ImageCall::SyncFolder.answered(File::open(rt, folder))?;
+    ImageCall::SyncFolder.answered(opened.sync_all())
 }

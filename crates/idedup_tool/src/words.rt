@@ -28,3 +28,11 @@ pub(crate) fn lent(alloc: Global, owned: &[String]) -> Result<Vec<&str>, AllocEr
     }
     Ok(words)
 }
+
+/// The word that names the image, if there is one.
+pub(crate) fn image<'a>(words: &[&'a str]) -> &'a str {
+    match words {
+        [_, image, ..] => image,
+        _ => "",
+    }
+}
