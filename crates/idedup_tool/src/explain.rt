@@ -31,7 +31,8 @@ pub(crate) fn explain<R: Eprint>(
     }
 }
 
-const INCOMPLETE: &str = "it ends within a command or its data, or data has no newline behind it, or a line has more than 8,192 bytes";
+const INCOMPLETE: &str =
+    "it ends within a command or its data, or data has no newline behind it, or a line has more than 8,192 bytes";
 
 const SPENT: &str = "1,099,511,627,776 bytes were taken, and another is needed";
 

@@ -1,8 +1,7 @@
 //! A call of the system on an image, and how it failed.
 ghost use Rattle.std.specs.Prelude.{◌≡◌, IfOk, Ok};
 
-use std::fmt;
-use std::io;
+use std::{fmt, io};
 use vol_numbers::BlockNo;
 
 /// What was asked of the system.

@@ -2,7 +2,7 @@
 ghost use Rattle.std.specs.Prelude.{◌≡◌, ◌*◌, ◌/◌, ◌<◌, ◌^◌, ◌↔◌, IsOk, IfOk, IfSome};
 
 use crate::failure::{Failure, ImageCall};
-use std::fs::{File, Files, OpenOptions};
+use std::fs::{File, Files, OpenOptions, TryLockError};
 use std::io;
 use std::os::fd::AsRawFd;
 use std::os::unix::fs::FileExt;
@@ -29,20 +29,33 @@ impl Image {
         let file = open_file(rt, name, blocks.is_some())?;
         lock(&file)?;
         match blocks {
-            Some(blocks) => {
-                fill_with_zeros(&file, blocks)?;
-                sync_folder(rt, name)?;
-                Ok(Image {
-                    file,
-                    count: blocks,
-                })
-            }
-            None => {
-                settle(&file)?;
-                let count = whole_blocks_of(&file)?;
-                Ok(Image { file, count })
-            }
+            Some(blocks) => Image::made(rt, name, file, blocks),
+            None => Image::found(file),
         }
+    }
+
+    /// A new image in an open file of this name, which is on the disk with its entry in its folder.
+    fn made<R: Files<File = File>>(
+        rt: &R,
+        name: &str,
+        file: File,
+        blocks: u32,
+    ) -> Result<Image, Failure>
+        ensures { IfOk result (λ image. image.count ≡ blocks) }
+    {
+        fill_with_zeros(&file, blocks)?;
+        sync_folder(rt, name)?;
+        Ok(Image {
+            file,
+            count: blocks,
+        })
+    }
+
+    /// The image that an open file has on the disk.
+    fn found(file: File) -> Result<Image, Failure> {
+        settle(&file)?;
+        let count = whole_blocks_of(&file)?;
+        Ok(Image { file, count })
     }
 
     pub(crate) fn read(&self, at: BlockNo, into: &mut Block) -> Result<(), Failure> {
@@ -98,7 +111,7 @@ fn open_file<R: Files<File = File>>(rt: &R, name: &str, may_make: bool) -> Resul
 /// what is meant for that stream must not go into the image.
 fn regular(file: File) -> io::Result<File> {
     if !file.metadata()?.is_file() {
-        return Err(io::ErrorKind::InvalidInput.into());
+        return Err(io::Error::new(io::ErrorKind::InvalidInput, "it is no regular file"));
     }
     if file.as_raw_fd() <= 2 {
         return file.try_clone();
@@ -110,7 +123,11 @@ fn regular(file: File) -> io::Result<File> {
 fn lock(file: &File) -> Result<(), Failure> {
     let taken = match file.try_lock() {
         Ok(()) => Ok(()),
-        Err(error) => Err(error.into()),
+        Err(TryLockError::WouldBlock) => Err(io::Error::new(
+            io::ErrorKind::WouldBlock,
+            "another program has it open",
+        )),
+        Err(TryLockError::Error(error)) => Err(error),
     };
     ImageCall::Lock.answered(taken)
 }
