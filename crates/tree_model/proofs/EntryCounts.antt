@@ -115,7 +115,7 @@ ordered_rest e es h = and_right _ _ h
 not_below : (k : Path) (v old : Node) (e : Path × Node) (es : Tree) → IsOrdered (e ∷ es) → path_cmp k e.0 ≡ Less → node_at (e ∷ es) k ≡ Some old → ⊥
 not_below k v old e es h less stood =
     let long : suc (suc (length es)) ≡ cond (is_some (node_at (e ∷ es) k)) (length (e ∷ es)) (length (e ∷ es) + 1) =
-        sym (ap (λ r. length (by_order r ((k, v) ∷ e ∷ es) ((e.0, v) ∷ es) (e ∷ with_node es k v))) less) ∙ length-put path_cmp path_total k v (e ∷ es) (true_T _ h) in
+    sym (ap (λ r. length (by_order r ((k, v) ∷ e ∷ es) ((e.0, v) ∷ es) (e ∷ with_node es k v))) less) ∙ length-put path_cmp path_total k v (e ∷ es) (true_T _ h) in
     let short : suc (suc (length es)) ≡ suc (length es) = long ∙ ap (λ o. cond (is_some o) (length (e ∷ es)) (length (e ∷ es) + 1)) stood in
     absurd (omega arith)
 
@@ -176,14 +176,14 @@ module _ (from to : Path) where
       elim (new_is from to k) [
         | inl w ↦
             let zero : one q (new_path from to k) ≡ 0 = alone_zero q (new_path from to k) (λ name e.
-                elim (compare q to w.rest name [] (sym e ∙ w.is)) [
-                  | inl u ↦ strip_none to q u.more none u.is
-                  | inr a ↦
-                      let whole : (q ++ a.name ∷ a.more) ++ w.rest ≡ q ++ name ∷ [] = ap (λ p. p ++ w.rest) (sym a.is) ∙ sym w.is ∙ e in
-                      let last : to ≡ q ++ a.name ∷ [] = a.is ∙ ap (λ m. q ++ a.name ∷ m) (one_more q a.name a.more w.rest name whole) in
-                      let tied : tie q (parent_of to) ≡ true = ap (λ x. tie q x) (ap parent_of last ∙ parent_is q a.name) ∙ tie_itself q in
-                      cc
-                ]) in
+            elim (compare q to w.rest name [] (sym e ∙ w.is)) [
+              | inl u ↦ strip_none to q u.more none u.is
+              | inr a ↦
+                  let whole : (q ++ a.name ∷ a.more) ++ w.rest ≡ q ++ name ∷ [] = ap (λ p. p ++ w.rest) (sym a.is) ∙ sym w.is ∙ e in
+                  let last : to ≡ q ++ a.name ∷ [] = a.is ∙ ap (λ m. q ++ a.name ∷ m) (one_more q a.name a.more w.rest name whole) in
+                  let tied : tie q (parent_of to) ≡ true = ap (λ x. tie q x) (ap parent_of last ∙ parent_is q a.name) ∙ tie_itself q in
+                  cc
+            ]) in
             omega arith
         | inr s ↦ let same : one q (new_path from to k) ≡ one q k = ap (λ p. one q p) s.is in omega arith
       ]
@@ -199,11 +199,11 @@ pub none_total : (es : Tree) (q : Path) → ((name : List ℕ) → node_at es (q
 none_total [] q none = refl
 none_total (e ∷ es) q none =
     let here : one q e.0 ≡ 0 = alone_zero q e.0 (λ name is.
-        let some : node_at (e ∷ es) (q ++ name ∷ []) ≡ Some e.1 = ap (λ p. node_at (e ∷ es) p) (sym is) ∙ ap (λ b. cond b (Some e.1) (node_at es e.0)) (tie_itself e.0) in
-        let nothing : node_at (e ∷ es) (q ++ name ∷ []) ≡ None = none name in
-        cc) in
+    let some : node_at (e ∷ es) (q ++ name ∷ []) ≡ Some e.1 = ap (λ p. node_at (e ∷ es) p) (sym is) ∙ ap (λ b. cond b (Some e.1) (node_at es e.0)) (tie_itself e.0) in
+    let nothing : node_at (e ∷ es) (q ++ name ∷ []) ≡ None = none name in
+    cc) in
     let rest : total q es ≡ 0 = none_total es q (λ name.
-        elim (tie (q ++ name ∷ []) e.0) as (λ b. cond b (Some e.1) (node_at es (q ++ name ∷ [])) ≡ None → node_at es (q ++ name ∷ []) ≡ None) [ true ↦ λ n. cc | false ↦ λ n. n ] (none name)) in
+    elim (tie (q ++ name ∷ []) e.0) as (λ b. cond b (Some e.1) (node_at es (q ++ name ∷ [])) ≡ None → node_at es (q ++ name ∷ []) ≡ None) [ true ↦ λ n. cc | false ↦ λ n. n ] (none name)) in
     omega arith
 
 -- ---- how many nodes there are
@@ -213,7 +213,7 @@ head_apart : (e : Path × Node) (es : Tree) → IsOrdered (e ∷ es) → node_at
 head_apart e es h =
     let left = without es e.0 in
     let whole : 1 + length left ≡ suc (length es) =
-        subst (λ (t : Bool). cond (is_some (cond t (Some e.1) (node_at es e.0))) 1 0 + length (cond (not t) (e ∷ left) left) ≡ suc (length es)) (tie_itself e.0) (length_without path_cmp path_total e.0 (e ∷ es) (true_T _ h)) in
+    subst (λ (t : Bool). cond (is_some (cond t (Some e.1) (node_at es e.0))) 1 0 + length (cond (not t) (e ∷ left) left) ≡ suc (length es)) (tie_itself e.0) (length_without path_cmp path_total e.0 (e ∷ es) (true_T _ h)) in
     let rest : cond (is_some (node_at es e.0)) 1 0 + length left ≡ length es = length_without path_cmp path_total e.0 es (true_T _ (ordered_rest e es h)) in
     elim (node_at es e.0) as (λ o. cond (is_some o) 1 0 + length left ≡ length es → o ≡ None) [ None ↦ λ n. refl | Some x ↦ λ n. absurd (omega arith) ] rest
 

@@ -61,7 +61,7 @@ fit_made tree path node h small none q n e =
           subst (λ (x : Node). Fits (cond (tie q (parent_of path)) 0 (total q (with_node tree path node))) x.content) is (fewer node.content _ 0 few small)
       | false ↦ λ t some.
           let few : cond (tie q (parent_of path)) 0 (total q (with_node tree path node)) ≤ total q tree =
-              zero_or (tie q (parent_of path)) (total q (with_node tree path node)) (total q tree) (λ apart. omega (arith, put_most q path node tree, one_apart q path apart)) in
+          zero_or (tie q (parent_of path)) (total q (with_node tree path node)) (total q tree) (λ apart. omega (arith, put_most q path node tree, one_apart q path apart)) in
           fewer n.content _ (total q tree) few (h q n some)
     ] refl (sym (put_at tree path node q) ∙ e)
 
@@ -193,7 +193,7 @@ module _ (old tree : Tree) (p : Path) where
   bound_content used h number (Directory width) stood =
       let entries = total p tree in
       let wide : Was old number (max width entries) entries =
-          elim (wide_bound old number width entries (h p (record { number = number; content = Directory width }) stood)) [ inl w ↦ w | inr unused ↦ let u = used number width stood in cc ] in
+      elim (wide_bound old number width entries (h p (record { number = number; content = Directory width }) stood)) [ inl w ↦ w | inr unused ↦ let u = used number width stood in cc ] in
       let same : max width entries ≡ max width (length (entries_of tree p)) = ap (λ n. max width n) (sym (total_is tree p)) in
       bound_put old tree p (record { number = number; content = Directory (max width (length (entries_of tree p))) }) (inl (subst (λ w. Was old number w entries) same wide)) h
 
@@ -240,7 +240,7 @@ made_old : (tree : Tree) (path : Path) (node parent : Node) → node_at tree (pa
 made_old tree path node parent above free number width stood =
     let apart : tie (parent_of path) path ≡ false = test_fails _ (λ t. let some : node_at tree path ≡ Some parent = ap (λ p. node_at tree p) (sym (tie_is _ _ t)) ∙ above in cc) in
     let is : node_at tree (parent_of path) ≡ Some (record { number = number; content = Directory width }) =
-        ap (λ b. cond b (Some node) (node_at tree (parent_of path))) (sym apart) ∙ sym (put_at tree path node (parent_of path)) ∙ stood in
+    ap (λ b. cond b (Some node) (node_at tree (parent_of path))) (sym apart) ∙ sym (put_at tree path node (parent_of path)) ∙ stood in
     used tree (parent_of path) (record { number = number; content = Directory width }) is
 
 no_entries : (tree : Tree) (path : Path) → IsTree tree → node_at tree path ≡ None → total path tree ≡ 0
@@ -395,8 +395,12 @@ bounded tree new h p q number before width stood (inr new_one) = let u = used tr
 pub widths_are_greatest : WidthsAreGreatest
 widths_are_greatest tree command h p q number old new e f =
     let l = leaves tree command h in
-    omega (arith, widths_never_fall tree command h p q number old new e f, enough tree (step tree command).1 l q number new f,
-    bounded tree (step tree command).1 h p q number old new e (l.bound q (record { number = number; content = Directory new }) f))
+    omega (
+      arith,
+      widths_never_fall tree command h p q number old new e f,
+      enough tree (step tree command).1 l q number new f,
+      bounded tree (step tree command).1 h p q number old new e (l.bound q (record { number = number; content = Directory new }) f),
+    )
 
 fresh_none : (tree : Tree) (entries number width : ℕ) → is_used tree number ≡ false → Bound tree entries number (Directory width) → width ≡ 0
 fresh_none tree entries number width unused (inl w) = let u = used tree w.path (record { number = number; content = Directory w.before }) w.stood in cc
