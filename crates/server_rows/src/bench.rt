@@ -3,7 +3,7 @@ use crate::ends::{Ends, left_in};
 use crate::image;
 use crate::texts::{number, read, write};
 use command_server::{Status, mount, run, serve};
-use disk_model::{Media, MemMedia};
+use disk_model::{Disk, Media, MemMedia};
 use std::alloc::{AllocError, Global};
 use std::mem;
 use wire_ends::{MemSink, MemSource};
