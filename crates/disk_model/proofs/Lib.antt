@@ -1,4 +1,4 @@
-pub mod CutLemmas
-pub mod MediaLemmas
-pub mod MemoryLemmas
+mod CutLemmas
+mod MediaLemmas
+mod MemoryLemmas
 pub mod Moments

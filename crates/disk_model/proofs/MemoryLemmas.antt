@@ -40,13 +40,6 @@ module _ (steps : List Step) (step : Step) (old new : Cells) (e : undone step ne
   stands_after t s stood =
       (stood.0, stood.1, omega (arith, stood.2, length-append steps (step ∷ [])), stood.3 ∙ sym (undone_from steps step old new stood.0 e stood.2))
 
-  adds_step : Adds (past_of true steps old) (past_of true longer new) (λ s. s ≡ told new)
-  adds_step = record {
-    later = λ is. omega (arith, length-append steps (step ∷ []));
-    told = λ is. refl;
-    each = λ is t s le stood. stood_before t s le stood;
-  }
-
 -- the record goes on by a step that leads back, or it ends
 pub record Notes (old_flag new_flag : Bool) (steps later : List Step) (old new : Cells) : Type 0 where
   pub kept : IsTrue new_flag → IsTrue old_flag × ((step : Step) × (undone step new ≡ old) × (later ≡ steps ++ step ∷ []))

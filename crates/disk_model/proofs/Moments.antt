@@ -1,10 +1,10 @@
--- How the images and the moments of a run of calls follow from those of each.
-use Rattle.std.specs.Prelude.{◌≡◌, ◌≢◌, ◌≤◌, ◌<◌, ◌==◌, nat_lt, if◌then◌else◌, ℕ, zero, suc, Bool, true, false, List, [], ◌∷◌, length, slice_get, slice_set, Some, IsTrue, refl}
+-- How the images and the moments of several calls follow from those of each.
+use Rattle.std.specs.Prelude.{◌≡◌, ◌≢◌, ◌≤◌, ◌<◌, ◌==◌, nat_lt, if◌then◌else◌, ℕ, zero, suc, Bool, true, false, List, [], ◌∷◌, length, slice_get, slice_set, Some, refl}
 use Rattle.std.proofs.Common.{sym, ◌∙◌, ap, subst, inl, inr, ⊎_elim, arith}
 use Rattle.std.proofs.lemmas.Bool.Decides.{nat_tests}
 use Rattle.vol_numbers.specs.declared.block.Block.{Block}
-use Rattle.disk_model.specs.Disk.{State, included, is_among, written, synced, IsImage, DuringWrite, DuringSync, DuringWriteThrough}
-use Rattle.disk_model.specs.Past.{Past, Adds, EachMoment}
+use Rattle.disk_model.specs.Disk.{State, included, is_among, written, synced, IsImage, DuringWrite, DuringWriteThrough}
+use Rattle.disk_model.specs.Past.{Past, Adds}
 
 -- before the first call
 pub adds_none : (old : Past) (Q : State → Type 0) → Adds old old Q
@@ -19,10 +19,6 @@ adds_then first second here = record {
       let on : t ≤ _ = omega (arith, le, first.later (second.told is)) in
       ⊎_elim (λ was. first.each (second.told is) t s le was) (λ r. inr (here s r)) (second.each is t s on stood);
 }
-
--- each moment of a whole run, from what its first moment has
-pub each_moment : {old new : Past} {Q : State → Type 0} → Adds old new Q → ((s : State) → IsTrue old.is_told → old.since old.clock s → Q s) → EachMoment old new Q
-each_moment adds here is s stood = ⊎_elim (here s (adds.told is)) (λ q. q) (adds.each is _ s (omega arith) stood)
 
 pub adds_weaker : {old new : Past} {Q R : State → Type 0} → Adds old new R → ((s : State) → R s → Q s) → Adds old new Q
 adds_weaker adds here = record { told = adds.told; later = adds.later; each = λ is t s le stood. ⊎_elim (λ was. inl was) (λ r. inr (here s r)) (adds.each is t s le stood) }
@@ -56,15 +52,6 @@ image_unsynced s image is = record { as_long = is.as_long; agrees = λ at was_sy
 -- one read more, where nothing has changed the state that is s
 pub adds_read : {old mid new : Past} {before s : State} → Adds old mid (λ m. m ≡ s) → before ≡ s → Adds mid new (λ m. m ≡ before) → Adds old new (λ m. m ≡ s)
 adds_read so_far is call = adds_then so_far call (λ m e. e ∙ is)
-
--- one write more, from a state that is s
-pub adds_write : {old mid new : Past} {before : State} {at : ℕ} (Q : State → Type 0) (s : State) → Adds old mid Q → before ≡ s → Adds mid new (DuringWrite at before) → ((torn : Block) → Q (written at torn s)) → Adds old new Q
-adds_write {at = at} Q s so_far is call here =
-    adds_then so_far call (λ r during. subst Q (sym (during.is ∙ ap (λ (m : State). written at during.block m) is)) (here during.block))
-
--- one sync more
-pub adds_sync : {old mid new : Past} {before : State} (Q : State → Type 0) (s : State) → Adds old mid Q → before ≡ s → Adds mid new (DuringSync before) → Q s → Q (synced s) → Adds old new Q
-adds_sync Q s so_far is call here after = adds_then so_far call (λ r during. ⊎_elim (λ e. subst Q (sym (e ∙ is)) here) (λ e. subst Q (sym (e ∙ ap synced is)) after) during)
 
 -- one write and sync more
 pub adds_write_through : {old mid new : Past} {before : State} {at : ℕ} (block : Block) (Q : State → Type 0) (s : State) → Adds old mid Q → before ≡ s → Adds mid new (DuringWriteThrough at block before)

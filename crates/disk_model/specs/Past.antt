@@ -18,10 +18,6 @@ pub record Adds (old new : Past) (Q : State → Type 0) : Type 0 where
 abbrev pub Keeps : Past → Past → Type 0
 Keeps old new = IsTrue new.is_told → (t : ℕ) (s : State) → t ≤ old.clock → old.since t s → new.since t s
 
--- each moment from old to new has Q, the first and the last too
-abbrev pub EachMoment : Past → Past → (State → Type 0) → Type 0
-EachMoment old new Q = IsTrue new.is_told → (s : State) → new.since old.clock s → Q s
-
 -- a record of no moment but this one
 pub record HasBegun (now : Past) : Type 0 where
   pub told : IsTrue now.is_told

@@ -12,8 +12,6 @@ mod named;
 mod pick;
 mod record;
 mod sure_disk;
-#[cfg(test)]
-mod tests;
 
 pub use disk::{Disk, DiskFault};
 pub use durable::write_through;

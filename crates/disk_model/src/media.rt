@@ -1,5 +1,5 @@
 //! The trait of a medium: named images, one of which is open as a disk.
-ghost use Rattle.std.specs.Prelude.{◌≡◌, ◌≢◌, ◌⊎◌, ℕ, List, None, Some, IfSome, OnOk, OnErr, IsTrue, IsErrOf};
+ghost use Rattle.std.specs.Prelude.{◌≡◌, ◌≢◌, ◌⊎◌, ℕ, List, None, Some, IfSome, OnOk, IsTrue, IsErrOf};
 ghost use Rattle.vol_numbers.specs.Cause.{raised};
 ghost use Rattle.disk_model.specs.Disk.{blank};
 ghost use Rattle.disk_model.specs.Past.{Adds};
@@ -27,8 +27,9 @@ pub trait Media: Disk {
         ensures found { OnOk result (IsTrue Self.tells → blocks ≡ None → image_named (Self.fixed self.old) (Self.state self.old) name.now ≡ Some (Self.state self.new)) }
         ensures made { OnOk result (IfSome blocks (λ n. IsTrue Self.tells → Self.state self.new ≡ blank n)) }
         ensures size { OnOk result (IfSome blocks (λ n. (Self.fixed self.new).size ≡ n)) }
-        // After a failure there is no image with blocks, or as many blocks as before. So before the first Ok there is none.
-        ensures size_err { OnErr result (((Self.fixed self.new).size ≡ (Self.fixed self.old).size) ⊎ ((Self.fixed self.new).size ≡ 0)) }
+        // After a fault there is no image with blocks, or as many blocks as before. Where memory was wanting it isn't said: a disk that the
+        // image is made of may have been opened by then.
+        ensures size_err { IsErrOf result Failed → ((Self.fixed self.new).size ≡ (Self.fixed self.old).size) ⊎ ((Self.fixed self.new).size ≡ 0) }
         // Only the named image changes, and it only by a number.
         ensures others { IsTrue Self.tells → (other : List ℕ) → (other ≢ name.now) ⊎ (blocks ≡ None)
             → image_named (Self.fixed self.new) (Self.state self.new) other ≡ image_named (Self.fixed self.old) (Self.state self.old) other }

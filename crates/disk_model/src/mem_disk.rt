@@ -71,10 +71,11 @@ impl MemDisk {
         self.device.moments()
     }
 
-    pub(crate) fn is_told(&self) -> bool
+    /// Whether it still tells its moments. Where memory for the record is wanting it ends to.
+    pub fn tells_moments(&self) -> bool
         ensures { result ≡ (⟦<MemDisk as Disk>⟧.past self.now).is_told }
     {
-        self.device.is_told()
+        self.device.tells_moments()
     }
 
     /// Begins a new record.

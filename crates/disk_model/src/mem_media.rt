@@ -1,13 +1,15 @@
 //! Named disks in memory, one of which is open.
-ghost use Rattle.std.specs.Prelude.{◌≡◌, ◌≢◌, ◌⊎◌, ◌≤◌, ◌↔◌, ◌+◌, refl, ℕ, List, None, Some, IfSome, IsSome, IsNone, OnOk, OnErr, IsTrue, IsErrOf, true, is_some, IfOk, string_bytes, vec_len, vec_capacity, ◌<◌, option_map, slice_get};
-ghost use Rattle.vol_numbers.specs.Block.{zero_block};
-ghost use Rattle.vol_numbers.specs.Cause.{raised};
+ghost use Rattle.std.specs.Prelude.{◌≡◌, ◌≢◌, ◌⊎◌, ◌≤◌, ◌↔◌, ◌+◌, refl, ℕ, List, None, Some, IfSome, IsSome, IsNone, IsErr, OnOk, OnErr, IsTrue, IsErrOf, true, is_some, IfOk, string_bytes, vec_len, vec_capacity, ◌<◌, option_map, slice_get};
+ghost use Rattle.vol_numbers.specs.Block.{zero_block, block_of};
+ghost use Rattle.vol_numbers.specs.Cause.{HasCause, raised};
+ghost use Rattle.vol_numbers.specs.Plan.{IsPlanned, advanced};
 ghost use Rattle.std.specs.Option.{option_copied_mut};
 ghost use Rattle.std.specs.Borrow.{sem};
-ghost use Rattle.disk_model.specs.Disk.{blank};
+ghost use Rattle.disk_model.specs.Disk.{blank, written, synced, DuringWrite, DuringSync, Gives};
 ghost use Rattle.disk_model.specs.declared.named.Named.{Named};
 ghost use Rattle.disk_model.specs.Past.{Adds, Keeps, HasBegun};
 ghost use Rattle.disk_model.specs.Media.{image_named, of_size};
+ghost use Rattle.disk_model.specs.Planned.{open_plan, open_junk};
 ghost use Rattle.disk_model.specs.declared.media.OpenFault.TheVariants.{Failed};
 
 use crate::named::{Named, add, is_name, place, put_back, take_out};
@@ -40,7 +42,7 @@ fn pass(earlier: &mut u64, is_told: &mut bool, disk: &MemDisk)
         Some(clock) => *earlier = clock,
         None => *is_told = false,
     }
-    if !disk.is_told() {
+    if !disk.tells_moments() {
         *is_told = false;
     }
 }
@@ -106,6 +108,13 @@ impl MemMedia {
             earlier: 0,
             is_told: true,
         }
+    }
+
+    /// Whether it still tells its moments. Where memory for the record is wanting it ends to.
+    pub fn tells_moments(&self) -> bool
+        ensures { result ≡ (⟦<MemMedia as Disk>⟧.past self.now).is_told }
+    {
+        self.is_told && self.disk.tells_moments()
     }
 
     fn has(&self, name: &str) -> bool
@@ -213,7 +222,20 @@ impl Disk for MemMedia {
         self.disk.blocks()
     }
 
-    fn read_block(&mut self, at: BlockNo, into: &mut Block) -> Result<(), DiskFault> {
+    fn read_block(&mut self, at: BlockNo, into: &mut Block) -> Result<(), DiskFault>
+        requires { at < (⟦<MemMedia as Disk>⟧.fixed self.old).size }
+        ensures planned { IsErr result ↔ IsPlanned (open_plan self.old) }
+        ensures next { open_plan self.new ≡ advanced (open_plan self.old) }
+        ensures junk { open_junk self.new ≡ open_junk self.old }
+        ensures read { OnOk result (slice_get (⟦<MemMedia as Disk>⟧.state self.old).contents at ≡ Some into.new) }
+        ensures same { ⟦<MemMedia as Disk>⟧.state self.new ≡ ⟦<MemMedia as Disk>⟧.state self.old }
+        ensures fixed { ⟦<MemMedia as Disk>⟧.fixed self.new ≡ ⟦<MemMedia as Disk>⟧.fixed self.old }
+        ensures moments { Adds (⟦<MemMedia as Disk>⟧.past self.old) (⟦<MemMedia as Disk>⟧.past self.new) (λ s. s ≡ ⟦<MemMedia as Disk>⟧.state self.old) }
+        ensures keeps { Keeps (⟦<MemMedia as Disk>⟧.past self.old) (⟦<MemMedia as Disk>⟧.past self.new) }
+        ensures given { OnOk result (Gives (⟦<MemMedia as Disk>⟧.given self.old) (⟦<MemMedia as Disk>⟧.given self.new) at into.new) }
+        ensures given_err { OnErr result (⟦<MemMedia as Disk>⟧.given self.new ≡ ⟦<MemMedia as Disk>⟧.given self.old) }
+        ensures cause { HasCause (⟦<MemMedia as Disk>⟧.faults self.old) (⟦<MemMedia as Disk>⟧.faults self.new) result }
+    {
         if let Err(fault) = self.disk.read_block(at, into) {
             self.faults.raise();
             return Err(fault);
@@ -222,7 +244,20 @@ impl Disk for MemMedia {
         Ok(())
     }
 
-    fn write_block(&mut self, at: BlockNo, from: &Block) -> Result<(), DiskFault> {
+    fn write_block(&mut self, at: BlockNo, from: &Block) -> Result<(), DiskFault>
+        requires { at < (⟦<MemMedia as Disk>⟧.fixed self.old).size }
+        ensures planned { IsErr result ↔ IsPlanned (open_plan self.old) }
+        ensures next { open_plan self.new ≡ advanced (open_plan self.old) }
+        ensures junk { open_junk self.new ≡ open_junk self.old }
+        ensures filled { OnErr result (⟦<MemMedia as Disk>⟧.state self.new ≡ written at (block_of (open_junk self.old)) (⟦<MemMedia as Disk>⟧.state self.old)) }
+        ensures written { OnOk result (⟦<MemMedia as Disk>⟧.state self.new ≡ written at from.now (⟦<MemMedia as Disk>⟧.state self.old)) }
+        ensures torn { OnErr result (DuringWrite at (⟦<MemMedia as Disk>⟧.state self.old) (⟦<MemMedia as Disk>⟧.state self.new)) }
+        ensures fixed { ⟦<MemMedia as Disk>⟧.fixed self.new ≡ ⟦<MemMedia as Disk>⟧.fixed self.old }
+        ensures moments { Adds (⟦<MemMedia as Disk>⟧.past self.old) (⟦<MemMedia as Disk>⟧.past self.new) (DuringWrite at (⟦<MemMedia as Disk>⟧.state self.old)) }
+        ensures keeps { Keeps (⟦<MemMedia as Disk>⟧.past self.old) (⟦<MemMedia as Disk>⟧.past self.new) }
+        ensures given { ⟦<MemMedia as Disk>⟧.given self.new ≡ ⟦<MemMedia as Disk>⟧.given self.old }
+        ensures cause { HasCause (⟦<MemMedia as Disk>⟧.faults self.old) (⟦<MemMedia as Disk>⟧.faults self.new) result }
+    {
         let result = self.disk.write_block(at, from);
         if result.is_err() {
             self.faults.raise();
@@ -230,7 +265,18 @@ impl Disk for MemMedia {
         result
     }
 
-    fn sync(&mut self) -> Result<(), DiskFault> {
+    fn sync(&mut self) -> Result<(), DiskFault>
+        ensures planned { IsErr result ↔ IsPlanned (open_plan self.old) }
+        ensures next { open_plan self.new ≡ advanced (open_plan self.old) }
+        ensures junk { open_junk self.new ≡ open_junk self.old }
+        ensures synced { OnOk result (⟦<MemMedia as Disk>⟧.state self.new ≡ synced (⟦<MemMedia as Disk>⟧.state self.old)) }
+        ensures not_synced { OnErr result (⟦<MemMedia as Disk>⟧.state self.new ≡ ⟦<MemMedia as Disk>⟧.state self.old) }
+        ensures fixed { ⟦<MemMedia as Disk>⟧.fixed self.new ≡ ⟦<MemMedia as Disk>⟧.fixed self.old }
+        ensures moments { Adds (⟦<MemMedia as Disk>⟧.past self.old) (⟦<MemMedia as Disk>⟧.past self.new) (DuringSync (⟦<MemMedia as Disk>⟧.state self.old)) }
+        ensures keeps { Keeps (⟦<MemMedia as Disk>⟧.past self.old) (⟦<MemMedia as Disk>⟧.past self.new) }
+        ensures given { ⟦<MemMedia as Disk>⟧.given self.new ≡ ⟦<MemMedia as Disk>⟧.given self.old }
+        ensures cause { HasCause (⟦<MemMedia as Disk>⟧.faults self.old) (⟦<MemMedia as Disk>⟧.faults self.new) result }
+    {
         let result = self.disk.sync();
         if result.is_err() {
             self.faults.raise();
@@ -245,7 +291,7 @@ impl Media for MemMedia {
         ensures found { OnOk result (blocks ≡ None → image_named (⟦<MemMedia as Disk>⟧.fixed self.old) (⟦<MemMedia as Disk>⟧.state self.old) name.now ≡ Some (⟦<MemMedia as Disk>⟧.state self.new)) }
         ensures made { OnOk result (IfSome blocks (λ n. ⟦<MemMedia as Disk>⟧.state self.new ≡ blank n)) }
         ensures size { OnOk result (IfSome blocks (λ n. (⟦<MemMedia as Disk>⟧.fixed self.new).size ≡ n)) }
-        ensures size_err { OnErr result (((⟦<MemMedia as Disk>⟧.fixed self.new).size ≡ (⟦<MemMedia as Disk>⟧.fixed self.old).size) ⊎ ((⟦<MemMedia as Disk>⟧.fixed self.new).size ≡ 0)) }
+        ensures size_err { IsErrOf result Failed → ((⟦<MemMedia as Disk>⟧.fixed self.new).size ≡ (⟦<MemMedia as Disk>⟧.fixed self.old).size) ⊎ ((⟦<MemMedia as Disk>⟧.fixed self.new).size ≡ 0) }
         ensures others { (other : List ℕ) → (other ≢ name.now) ⊎ (blocks ≡ None)
             → image_named (⟦<MemMedia as Disk>⟧.fixed self.new) (⟦<MemMedia as Disk>⟧.state self.new) other ≡ image_named (⟦<MemMedia as Disk>⟧.fixed self.old) (⟦<MemMedia as Disk>⟧.state self.old) other }
         ensures moments { Adds (⟦<MemMedia as Disk>⟧.past self.old) (⟦<MemMedia as Disk>⟧.past self.new) (λ s. s ≡ ⟦<MemMedia as Disk>⟧.state self.new) }

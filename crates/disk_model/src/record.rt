@@ -1,5 +1,5 @@
 //! The record of a disk in memory: its writes and syncs, each as what undoes it.
-ghost use Rattle.std.specs.Prelude.{◌≡◌, ◌++◌, [], ◌∷◌, IsTrue};
+ghost use Rattle.std.specs.Prelude.{◌≡◌, ◌<◌, ◌++◌, [], ◌∷◌, IsTrue, vec_len, vec_capacity};
 ghost use Rattle.disk_model.specs.declared.record.Step.{Step};
 ghost use Rattle.disk_model.specs.Memory.{IsSyncOf};
 
@@ -24,6 +24,8 @@ pub(crate) enum Step {
 
 /// Adds a step. Where there is no memory for it the record ends.
 pub(crate) fn note(steps: &mut Vec<Step>, is_told: &mut bool, step: Step)
+    // It goes on where it has room. That there is room can't be said: memory may be wanting.
+    ensures told { IsTrue is_told.old → vec_len steps.old < vec_capacity steps.old → IsTrue is_told.new }
     ensures kept { IsTrue is_told.new → IsTrue is_told.old × (steps.new.items ≡ steps.old.items ++ step ∷ []) }
 {
     if *is_told {

@@ -65,7 +65,8 @@ impl SureDisk {
         self.steps.len() as u64
     }
 
-    pub(crate) fn is_told(&self) -> bool
+    /// Whether it still tells its moments. Where memory for the record is wanting it ends to.
+    pub fn tells_moments(&self) -> bool
         ensures { result ≡ (⟦<SureDisk as Disk>⟧.past self.now).is_told }
     {
         self.is_told

@@ -1,3 +1,3 @@
-pub mod CurrentLemmas
+mod CurrentLemmas
 pub mod RootLaws
 pub mod SwitchLemmas

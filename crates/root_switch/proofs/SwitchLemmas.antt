@@ -5,7 +5,7 @@ use Rattle.std.proofs.lemmas.List.{length-set}
 use Rattle.vol_numbers.specs.declared.block.Block.{Block}
 use Rattle.disk_model.specs.Disk.{State, is_among, written, synced, EachImage, DuringWrite}
 use Rattle.disk_model.proofs.Moments.{kept_in_image, image_unsynced, slice_get-set_same, slice_get-set_other}
-use Rattle.root_switch.specs.Current.{current_slot, current_root}
+use Rattle.root_switch.specs.Current.{current_slot, current_root, selector_block}
 use Rattle.root_switch.specs.Switch.{IsCurrent, OldOrNew, IsSwitched, spelled_root}
 use Rattle.root_switch.specs.declared.root.RootBody.{RootBody}
 
@@ -76,10 +76,11 @@ module _ (s : State) (slot at : ℕ) (root : RootBody) (body : Block) (is_body :
   pub left_selector : {mid t : State} → mid ≡ staged → DuringWrite 0 mid t → EachImage (OldOrNew s slot root) t
   left_selector is during = subst (EachImage (OldOrNew s slot root)) (sym (during.is ∙ ap (λ (m : State). written 0 during.block m) is)) (selector_written during.block)
 
-  pub switched : (block : Block) → slice_index block.bytes 0 ≡ 1 - slot → IsSwitched s slot root (synced (written 0 block staged))
+  pub switched : (block : Block) → block ≡ selector_block (1 - slot) → IsSwitched s slot root (synced (written 0 block staged))
   switched block names = record {
     all_synced = refl;
     as_long = length-set (slice_set s.contents at body) 0 block ∙ length-set s.contents at body;
+    selector = there ∙ ap (λ (b : Block). Some b) names;
     slot_is = is_other;
     root = ap (λ (k : ℕ). slice_get after k) slot_is ∙ slice_get-set_other (slice_set s.contents at body) 0 at block (omega (arith, other)) ∙ slice_get-set_same s.contents at body (omega (arith, other, room)) ∙ ap (λ (b : Block). Some b) is_body;
     others = λ k not_selector not_other. slice_get-set_other (slice_set s.contents at body) 0 k block not_selector ∙ slice_get-set_other s.contents at k body (λ e. not_other (e ∙ other));
@@ -88,12 +89,14 @@ module _ (s : State) (slot at : ℕ) (root : RootBody) (body : Block) (is_body :
       after : List Block
       after = slice_set (slice_set s.contents at body) 0 block
 
-      read : current_slot after ≡ slice_index block.bytes 0 % 2
-      read = ap (λ (b : Option Block). unwrap_or (option_map (λ (b : Block). slice_index b.bytes 0) b) 0 % 2)
-          (slice_get-set_same (slice_set s.contents at body) 0 block (omega (arith, room, length-set s.contents at body)))
+      there : slice_get after 0 ≡ Some block
+      there = slice_get-set_same (slice_set s.contents at body) 0 block (omega (arith, room, length-set s.contents at body))
+
+      read : current_slot after ≡ (1 - slot) % 2
+      read = ap (λ (b : Option Block). unwrap_or (option_map (λ (b : Block). slice_index b.bytes 0) b) 0 % 2) (there ∙ ap (λ (b : Block). Some b) names)
 
       is_other : current_slot after ≡ 1 - slot
-      is_other = omega (arith, read, names)
+      is_other = omega (arith, read)
 
       slot_is : 1 + current_slot after ≡ at
       slot_is = omega (arith, is_other, other)

@@ -1,8 +1,12 @@
 -- Which of the two root slots is current, and the root that it has.
-use Rattle.std.specs.Prelude.{◌≡◌, ◌≤◌, ◌+◌, ◌%◌, ℕ, List, length, slice_get, slice_index, Option, option_map, unwrap_or}
+use Rattle.std.specs.Prelude.{◌≡◌, ◌≤◌, ◌+◌, ◌%◌, ℕ, List, ◌∷◌, length, replicate, slice_get, slice_index, Option, option_map, unwrap_or}
 use Rattle.vol_numbers.specs.Block.{zero_block}
 use Rattle.vol_numbers.specs.declared.block.Block.{Block}
 use Rattle.root_switch.specs.Root.{Root, root_in, HasShape, HasGeometry}
+
+-- the selector of a slot: its number in the first byte, and zeros behind it
+abbrev pub selector_block : ℕ → Block
+selector_block slot = record { bytes = slot ∷ replicate 4095 0 }
 
 -- the slot that the selector names: slot 0 or 1, by the parity of the first byte of block 0
 abbrev pub current_slot : List Block → ℕ

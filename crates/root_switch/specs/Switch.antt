@@ -4,7 +4,7 @@ use Rattle.vol_numbers.specs.declared.block.Block.{Block}
 use Rattle.disk_model.specs.Disk.{State, is_among}
 use Rattle.root_switch.specs.declared.root.RootBody.{RootBody}
 use Rattle.root_switch.specs.Root.{root_of, root_bytes}
-use Rattle.root_switch.specs.Current.{current_slot, current_root}
+use Rattle.root_switch.specs.Current.{current_slot, current_root, selector_block}
 
 -- the block that spells a root
 abbrev pub spelled_root : RootBody → Block
@@ -32,10 +32,11 @@ pub record HasNewRoot (before : State) (slot : ℕ) (body : RootBody) (image : L
 abbrev pub OldOrNew : State → ℕ → RootBody → List Block → Type 0
 OldOrNew before slot body image = HasOldRoot before slot image ⊎ HasNewRoot before slot body image
 
--- The new root is current and nothing is unsynced. No block but the selector and the other slot has changed.
+-- The new root is current, the selector is the one block that names its slot, and nothing is unsynced. No other block has changed.
 pub record IsSwitched (before : State) (slot : ℕ) (body : RootBody) (after : State) : Type 0 where
   pub all_synced : after.unsynced ≡ []
   pub as_long : length after.contents ≡ length before.contents
+  pub selector : slice_get after.contents 0 ≡ Some (selector_block (1 - slot))
   pub slot_is : current_slot after.contents ≡ 1 - slot
   pub root : current_root after.contents ≡ Some (spelled_root body)
   pub others : (k : ℕ) → k ≢ 0 → k ≢ 2 - slot → slice_get after.contents k ≡ slice_get before.contents k

@@ -1,6 +1,5 @@
 //! The fields of a root slot as they stand, before any rule of the geometry.
 ghost use Rattle.std.specs.Prelude.{◌≡◌, ◌≤◌, ◌+◌, ◌↔◌, IsSome, IfSome, length, take, drop};
-ghost use Rattle.byteorder.specs.Endian.{little_number};
 ghost use Rattle.root_switch.specs.Root.{root_of, root_in, root_bytes, header_bytes, HasGeometry};
 
 use crate::{HomeBits, RootBody};
@@ -43,12 +42,12 @@ impl Fields {
         ensures { root_from result ≡ root_in bytes.now }
     {
         Fields {
-            blocks: u32_at(bytes, 12),
-            log_blocks: u32_at(bytes, 16),
-            point: u64_at(bytes, 24),
-            inode_index: u32_at(bytes, 32),
-            records: u32_at(bytes, 36),
-            log_used: u32_at(bytes, 40),
+            blocks: LittleEndian::read_u32(&bytes[12..]),
+            log_blocks: LittleEndian::read_u32(&bytes[16..]),
+            point: LittleEndian::read_u64(&bytes[24..]),
+            inode_index: LittleEndian::read_u32(&bytes[32..]),
+            records: LittleEndian::read_u32(&bytes[36..]),
+            log_used: LittleEndian::read_u32(&bytes[40..]),
             homes: homes_of(bytes),
         }
     }
@@ -102,20 +101,6 @@ impl Fields {
         bytes[48..].copy_from_slice(&self.homes.bytes);
         bytes
     }
-}
-
-fn u32_at(bytes: &[u8], at: usize) -> u32
-    requires { at + 4 ≤ length bytes.now }
-    ensures { result ≡ little_number 4 (drop at bytes.now) }
-{
-    LittleEndian::read_u32(&bytes[at..])
-}
-
-fn u64_at(bytes: &[u8], at: usize) -> u64
-    requires { at + 8 ≤ length bytes.now }
-    ensures { result ≡ little_number 8 (drop at bytes.now) }
-{
-    LittleEndian::read_u64(&bytes[at..])
 }
 
 fn homes_of(bytes: &[u8]) -> HomeBits

@@ -7,8 +7,6 @@ mod laws;
 mod reading;
 mod root;
 mod switch;
-#[cfg(test)]
-mod tests;
 
 pub use homes::HomeBits;
 pub use laws::{root_of_spelling, same_root, spelling_reads_back};

@@ -1,10 +1,11 @@
 //! The switch to a new root.
-ghost use Rattle.std.specs.Prelude.{◌≡◌, ◌≢◌, ◌<◌, ◌-◌, [], IfOk, OnOk, OnErr, IsTrue, slice_index};
+ghost use Rattle.std.specs.Prelude.{◌≡◌, ◌≢◌, ◌<◌, ◌-◌, [], IfOk, OnOk, OnErr, IsTrue};
 ghost use Rattle.vol_numbers.specs.Cause.{HasCause};
 ghost use Rattle.vol_numbers.specs.Geometry.{layout_of};
 ghost use Rattle.disk_model.specs.Disk.{EachImage};
 ghost use Rattle.disk_model.specs.Past.{Adds};
 ghost use Rattle.root_switch.specs.Root.{root_of, root_in, root_bytes, HasGeometry};
+ghost use Rattle.root_switch.specs.Current.{selector_block};
 ghost use Rattle.root_switch.specs.Switch.{IsCurrent, OldOrNew, IsSwitched, spelled_root};
 
 use crate::{RootBody, write_root};
@@ -52,7 +53,7 @@ fn root_block(body: &RootBody) -> Block
 /// The selector that names a slot.
 fn selector(slot: u32) -> Block
     requires { slot < 2 }
-    ensures { slice_index result.bytes 0 ≡ slot }
+    ensures { result ≡ selector_block slot }
 {
     let mut block = Block::zero();
     block.bytes[0] = slot as u8;

@@ -1,0 +1,56 @@
+//! A medium in memory: that its images are opened again, each with its own plan.
+use crate::disks::{call, reads, writes};
+use disk_model::{Disk, Media, MemDisk, MemMedia, OpenFault};
+use std::alloc::Global;
+use std::test::Fail;
+use vol_numbers::CallList;
+
+/// A medium with an image of four blocks.
+fn with_image(alloc: Global) -> Result<MemMedia, Fail> {
+    let disk = MemDisk::new(alloc, 4)?;
+    let mut media = MemMedia::new(alloc);
+    media.add("a", disk)?;
+    Ok(media)
+}
+
+/// Whether the image is open and has so many blocks.
+fn opens(media: &mut MemMedia, name: &str, fresh: Option<u32>, blocks: u32) -> bool {
+    media.open(name, fresh) == Ok(()) && media.blocks() == blocks
+}
+
+/// Plans a failure of an image, where there is one of the name.
+fn plan(media: &mut MemMedia, name: &str, fails: CallList) -> bool {
+    match media.disk(name) {
+        Some(disk) => {
+            disk.plan(fails, None, 7);
+            true
+        }
+        None => false,
+    }
+}
+
+/// Whether an image keeps its blocks and its plan while another is open.
+fn opens_again(media: &mut MemMedia, fails: CallList) -> bool {
+    opens(media, "a", None, 4)
+        && writes(media, 3, 5)
+        && opens(media, "b", Some(2), 2)
+        && plan(media, "a", fails)
+        && opens(media, "a", None, 4)
+        && reads(media, 3, 5)
+        && !reads(media, 3, 5)
+        && opens(media, "a", Some(1), 1)
+}
+
+fn keeps_images(alloc: Global) -> Result<bool, Fail> {
+    let fails = call(alloc, 1)?;
+    let mut media = with_image(alloc)?;
+    Ok(opens_again(&mut media, fails))
+}
+
+#[test]
+fn images_are_opened_again(rt: HostRuntime) -> Result<(), Fail> {
+    let absent = MemMedia::new(rt.alloc()).open("a", None);
+    let holds = keeps_images(rt.alloc())?;
+    assert!(rt; absent == Err(OpenFault::Failed) && holds);
+    Ok(())
+}
