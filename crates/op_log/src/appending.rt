@@ -16,7 +16,8 @@ use tree_model::Command;
 use vol_numbers::{BlockNo, Geometry};
 
 /// Writes the record of a command into the log, from its block `at` on, and answers how many blocks it takes. It syncs nothing and takes no
-/// memory: a block is built when it is written.
+/// memory: a block is built when it is written. Each path of the command needs a name, since no record has the path of the root: the tree
+/// refuses every change that speaks of the root.
 pub fn append<D: Disk>(
     disk: &mut D,
     g: &Geometry,

@@ -1,5 +1,6 @@
 //! Which commands are logged, and how many blocks their records take.
-ghost use Rattle.std.specs.Prelude.{◌≡◌, ◌≤◌, ◌<◌, ◌↔◌, ◌+◌, ◌^◌, All, IsTrue, length};
+ghost use Rattle.std.specs.Prelude.{◌≡◌, ◌≤◌, ◌<◌, ◌↔◌, ◌+◌, ◌^◌, All, IsTrue, true, length};
+ghost use Rattle.tree_model.specs.Step.{is_change};
 ghost use Rattle.op_log.specs.Log.{blocks_of};
 ghost use Rattle.op_log.specs.Record.{IsLogged, HasRecord, fields_of, record_blocks};
 
@@ -36,9 +37,9 @@ pub fn blocks_of(commands: &CommandList) -> u32
     blocks
 }
 
-/// How many blocks of the log the record of a command takes.
+/// How many blocks of the log the record of a changing command takes.
 pub fn record_blocks(command: &Command) -> u32
-    requires { IsLogged command.now }
+    requires { is_change command.now ≡ true }
     ensures is { result ≡ record_blocks command.now }
     ensures some { 1 ≤ result }
     ensures at_most { result ≤ 17 }
@@ -46,9 +47,9 @@ pub fn record_blocks(command: &Command) -> u32
     text_len(command).div_ceil(4_096)
 }
 
-/// How many bytes the record has, up to the zeros at its end.
+/// How many bytes the record has, up to the zeros at its end. Paths and data are counted, whatever they name.
 fn text_len(command: &Command) -> u32
-    requires { IsLogged command.now }
+    requires { is_change command.now ≡ true }
     ensures is { result ≡ 24 + length (fields_of command.now).path + length (fields_of command.now).rest }
     ensures some { 24 ≤ result }
     ensures at_most { result ≤ 66584 }

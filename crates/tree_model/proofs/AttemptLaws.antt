@@ -26,10 +26,10 @@ path_total = lists_total nat_list_cmp_total
 pub put_at : PutAt
 put_at tree path node q = find-put path_cmp path_total q path node tree
 
-true_T : (b : _) → b ≡ true → T b
+pub true_T : (b : _) → b ≡ true → T b
 true_T b e = subst T (sym e) tt
 
-T_true : (b : _) → T b → b ≡ true
+pub T_true : (b : _) → T b → b ≡ true
 T_true true h = refl
 T_true false h = absurd h
 

@@ -1,6 +1,7 @@
 pub mod Accepted
 pub mod AttemptLaws
 pub mod ByteLaws
+pub mod EntryCounts
 pub mod Fronts
 pub mod Lookups
 pub mod Moves
@@ -15,5 +16,6 @@ pub mod Renames
 pub mod Shapes
 pub mod StepFollows
 pub mod StepShapes
+pub mod StepWidths
 pub mod TouchLaws
 pub mod Walks

@@ -1,13 +1,15 @@
 -- What stands at each path after a change, by what stood there before.
 use Rattle.std.proofs.Common.{◌≡◌, ℕ, List, [], ◌∷◌, ◌++◌, length, true, false, not, refl, sym, ap, ◌∙◌, Some, None, cond, inl, inr, suc, arith}
 use Rattle.std.proofs.lemmas.List.{append_cancel_left}
-use Rattle.std.specs.Prelude.{◌⊎◌, is_some, nat_eq}
+use Rattle.std.specs.Prelude.{Option, ◌⊎◌, is_some, max, nat_eq}
 use Rattle.std.specs.List.{cons_option}
 use Rattle.std.proofs.lemmas.Bool.{eqb-true}
 use Rattle.std.specs.FinMap.Entries.{find-where_key}
 use Rattle.tree_model.specs.declared.node.Node.{Node}
+use Rattle.tree_model.specs.declared.node.Content.{Content}
+use Rattle.tree_model.specs.declared.node.Content.TheVariants.{File, Directory}
 use Rattle.tree_model.specs.Path.{Path, path_cmp, strip}
-use Rattle.tree_model.specs.Tree.{Tree, node_at, without, new_path, renamed, moved_onto, entries_of, entry_below}
+use Rattle.tree_model.specs.Tree.{Tree, node_at, without, with_width, with_content_width, widened, new_path, renamed, moved_onto, entries_of, entry_below}
 use Rattle.tree_model.specs.Shape.{came_from, after_rename}
 use Rattle.tree_model.proofs.Puts.{same_path}
 use Rattle.tree_model.proofs.AttemptLaws.{put_at}
@@ -20,27 +22,27 @@ without_at tree path q = find-where_key path_cmp (λ x. not (tie path x)) q (λ 
 abbrev pub IsClear : Path → Tree → Type 0
 IsClear to tree = (rest : Path) → node_at tree (to ++ rest) ≡ None
 
-clear_head : (to : Path) (e : Path × Node) (es : Tree) → IsClear to (e ∷ es) → (r : Path) → e.0 ≡ to ++ r → ⊥
+pub clear_head : (to : Path) (e : Path × Node) (es : Tree) → IsClear to (e ∷ es) → (r : Path) → e.0 ≡ to ++ r → ⊥
 clear_head to e es clear r is =
     let there : node_at (e ∷ es) (to ++ r) ≡ Some e.1 = ap (λ b. cond b (Some e.1) (node_at es (to ++ r))) (tie_same (to ++ r) e.0 (sym is)) in
     let none : node_at (e ∷ es) (to ++ r) ≡ None = clear r in
     cc
 
-clear_tail : (to : Path) (e : Path × Node) (es : Tree) → IsClear to (e ∷ es) → IsClear to es
+pub clear_tail : (to : Path) (e : Path × Node) (es : Tree) → IsClear to (e ∷ es) → IsClear to es
 clear_tail to e es clear r =
     elim (tie (to ++ r) e.0) as (λ b. cond b (Some e.1) (node_at es (to ++ r)) ≡ None → node_at es (to ++ r) ≡ None) [ true ↦ λ n. cc | false ↦ λ n. n ] (clear r)
 
 -- how the new path of a path is one of two
-record Went (from to k : Path) : Type 0 where
-  rest : Path
-  was : k ≡ from ++ rest
-  is : new_path from to k ≡ to ++ rest
+pub record Went (from to k : Path) : Type 0 where
+  pub rest : Path
+  pub was : k ≡ from ++ rest
+  pub is : new_path from to k ≡ to ++ rest
 
-record Stayed (from to k : Path) : Type 0 where
-  none : strip from k ≡ None
-  is : new_path from to k ≡ k
+pub record Stayed (from to k : Path) : Type 0 where
+  pub none : strip from k ≡ None
+  pub is : new_path from to k ≡ k
 
-new_is : (from to k : Path) → Went from to k ⊎ Stayed from to k
+pub new_is : (from to k : Path) → Went from to k ⊎ Stayed from to k
 new_is from to k =
     elim (strip from k) as (λ o. strip from k ≡ o → Went from to k ⊎ Stayed from to k) [
       | Some r ↦ λ e. inl (record { rest = r; was = strip_is from k r e; is = ap (λ o. renamed to o k) e })
@@ -119,3 +121,18 @@ no_entry (e ∷ es) path name h =
       | Some entry ↦ λ is n. let zeros : suc (length (entries_of es path)) ≡ 0 = eqb-true _ _ n in absurd (omega arith)
       | None ↦ λ none n. ap (λ b. cond b (Some e.1) (node_at es (path ++ name ∷ []))) (no_entry_here path name e none) ∙ no_entry es path name n
     ] refl h
+
+-- ---- a directory widened
+
+content_other : (n : ℕ) (tree : Tree) (p q : Path) (number : ℕ) (c : Content) → tie q p ≡ false → node_at (with_content_width n tree p number c) q ≡ node_at tree q
+content_other n tree p q number (File bytes) e = refl
+content_other n tree p q number (Directory width) e =
+    let wide : Node = record { number = number; content = Directory (max width n) } in
+    put_at tree p wide q ∙ ap (λ b. cond b (Some wide) (node_at tree q)) e
+
+width_other : (n : ℕ) (tree : Tree) (p q : Path) (o : Option Node) → tie q p ≡ false → node_at (with_width n tree p o) q ≡ node_at tree q
+width_other n tree p q None e = refl
+width_other n tree p q (Some node) e = content_other n tree p q node.number node.content e
+
+pub widened_other : (tree : Tree) (p q : Path) → tie q p ≡ false → node_at (widened tree p) q ≡ node_at tree q
+widened_other tree p q e = width_other (length (entries_of tree p)) tree p q (node_at tree p) e

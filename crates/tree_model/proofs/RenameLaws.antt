@@ -18,25 +18,13 @@ use Rattle.tree_model.specs.Laws.{RenameMoves, RenamesMove, KeepsTree}
 use Rattle.tree_model.proofs.Accepted.{with_ok, passed, walked, nothing}
 use Rattle.tree_model.proofs.AttemptLaws.{Accepts, put_at}
 use Rattle.tree_model.proofs.Fronts.{tie, tie_is, tie_itself, test_fails, strip_back, strip_none, last_name, no_longer}
-use Rattle.tree_model.proofs.Lookups.{IsClear, moved_at}
+use Rattle.tree_model.proofs.Lookups.{IsClear, moved_at, widened_other}
 use Rattle.tree_model.proofs.Renames.{none_left, at_below, at_other, at_left}
 use Rattle.tree_model.proofs.StepFollows.{follows_itself}
-use Rattle.tree_model.proofs.StepShapes.{is_clear, keeps_tree}
+use Rattle.tree_model.proofs.StepShapes.{is_clear}
+use Rattle.tree_model.proofs.StepWidths.{new_widths, new_sizes, keeps_tree}
 
 -- ---- a directory widened
-
-content_other : (n : ℕ) (tree : Tree) (p q : Path) (number : ℕ) (c : Content) → tie q p ≡ false → node_at (with_content_width n tree p number c) q ≡ node_at tree q
-content_other n tree p q number (File bytes) e = refl
-content_other n tree p q number (Directory width) e =
-    let wide : Node = record { number = number; content = Directory (max width n) } in
-    put_at tree p wide q ∙ ap (λ b. cond b (Some wide) (node_at tree q)) e
-
-width_other : (n : ℕ) (tree : Tree) (p q : Path) (o : Option Node) → tie q p ≡ false → node_at (with_width n tree p o) q ≡ node_at tree q
-width_other n tree p q None e = refl
-width_other n tree p q (Some node) e = content_other n tree p q node.number node.content e
-
-widened_other : (tree : Tree) (p q : Path) → tie q p ≡ false → node_at (widened tree p) q ≡ node_at tree q
-widened_other tree p q e = width_other (length (entries_of tree p)) tree p q (node_at tree p) e
 
 -- the node that a node at the path was before
 abbrev Was : Tree → Path → Node → Type 0
@@ -154,4 +142,4 @@ new_shape = record {
 }
 
 pub keeps_trees : KeepsTree
-keeps_trees = record { at_first = record { ordered = refl; shape = new_shape }; after_step = keeps_tree }
+keeps_trees = record { at_first = record { ordered = refl; shape = new_shape; widths = new_widths; sizes = new_sizes }; after_step = keeps_tree }

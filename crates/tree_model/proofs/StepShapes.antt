@@ -1,4 +1,4 @@
--- Each command leaves a tree a tree.
+-- Each command leaves a tree in order, a directory in front of each path, and numbers apart.
 use Rattle.std.proofs.Common.{◌≡◌, ℕ, List, [], ◌∷◌, ◌++◌, true, false, not, refl, sym, ap, ◌∙◌, Some, None, cond, append_assoc, append-nil, arith, length}
 use Rattle.std.specs.Prelude.{Result, Ok, Err, Option, Bool, ◌||◌, ◌&&◌, is_some, nat_eq, max}
 use Rattle.std.proofs.lemmas.Bool.{eq-eqb}
@@ -14,7 +14,7 @@ use Rattle.tree_model.specs.Path.{Path, is_root, parent_of, strip}
 use Rattle.tree_model.specs.Tree.{Tree, node_at, with_node, without, is_directory, holds_entries, with_width, with_content_width, widened, moved, entries_of, is_used, least_unused, written}
 use Rattle.tree_model.specs.Step.{step, attempt, settled, refuse_if, or_refuse, walk, bytes_of, has_entries, written_tree}
 use Rattle.tree_model.specs.Order.{IsOrdered}
-use Rattle.tree_model.specs.Shape.{shape_of, shape_at, IsTree, came_from, after_rename}
+use Rattle.tree_model.specs.Shape.{shape_of, shape_at, IsShape, IsTree, came_from, after_rename}
 use Rattle.tree_model.proofs.Accepted.{with_ok, passed, held, there, walked, is_file, nothing}
 use Rattle.tree_model.proofs.AttemptLaws.{Accepts, after_all, put_at, ordered_put, ordered_without, ordered_moved, ordered_width}
 use Rattle.tree_model.proofs.Fronts.{tie, tie_is}
@@ -22,6 +22,14 @@ use Rattle.tree_model.proofs.Lookups.{without_at, IsClear, moved_at, no_entry}
 use Rattle.tree_model.proofs.Numbers.{gives_least}
 use Rattle.tree_model.proofs.Renames.{renamed_shape}
 use Rattle.tree_model.proofs.Shapes.{same_shape, with_shape, made_shape, without_shape, removed_shape}
+
+-- a tree but for its widths and sizes
+pub record IsFormed (tree : Tree) : Type 0 where
+  pub ordered : IsOrdered tree
+  pub shape : IsShape (shape_at tree)
+
+formed : (tree : Tree) → IsTree tree → IsFormed tree
+formed tree h = record { ordered = h.ordered; shape = h.shape }
 
 -- ---- the shape after a change
 
@@ -51,7 +59,7 @@ width_shape n tree p (Some node) e q = content_shape n tree p node e node.conten
 pub widened_shape : (tree : Tree) (p q : Path) → shape_at (widened tree p) q ≡ shape_at tree q
 widened_shape tree p q = width_shape _ tree p (node_at tree p) refl q
 
-ordered_widened : (tree : Tree) (p : Path) → IsOrdered tree → IsOrdered (widened tree p)
+pub ordered_widened : (tree : Tree) (p : Path) → IsOrdered tree → IsOrdered (widened tree p)
 ordered_widened tree p h = ordered_width (length (entries_of tree p)) tree p (node_at tree p) h
 
 -- ---- a new node
@@ -71,7 +79,7 @@ used_at (d ∷ es) q number a e =
 
 make_end : (tree : Tree) (path : Path) (content : Content) → IsTree tree → (u : ℕ) → refuse_if (is_root path) Exists ≡ Ok u → (parent : Node) → walk tree (parent_of path) ≡ Ok parent
     → (v : ℕ) → refuse_if (not (is_directory parent)) NotADirectory ≡ Ok v → (w : ℕ) → refuse_if (is_some (node_at tree path)) Exists ≡ Ok w → (number : ℕ) → or_refuse (least_unused tree) NoNumbers ≡ Ok number
-    → IsTree (widened (with_node tree path (record { number = number; content = content })) (parent_of path))
+    → IsFormed (widened (with_node tree path (record { number = number; content = content })) (parent_of path))
 make_end tree path content h u named parent walk_ok v holds w free number found =
     let least = gives_least.some tree number (there _ NoNumbers number found) in
     let node : Node = record { number = number; content = content } in
@@ -91,15 +99,15 @@ file_shape tree path node bytes new walk_ok file q =
     same_put tree path (record { number = node.number; content = File new }) (ap shape_of (walked tree path node walk_ok) ∙ ap (λ c. Some (node.number, holds_entries c)) (is_file node.content bytes file)) q
 
 file_end : (tree : Tree) (path : Path) (new : List ℕ) → IsTree tree → (node : Node) → walk tree path ≡ Ok node → (bytes : List ℕ) → bytes_of node.content ≡ Ok bytes
-    → IsTree (with_node tree path (record { number = node.number; content = File new }))
+    → IsFormed (with_node tree path (record { number = node.number; content = File new }))
 file_end tree path new h node walk_ok bytes file = record {
   ordered = ordered_put tree path (record { number = node.number; content = File new }) h.ordered;
   shape = same_shape _ _ (file_shape tree path node bytes new walk_ok file) h.shape;
 }
 
 write_end : (tree : Tree) (path : Path) (offset : ℕ) (more : List ℕ) → IsTree tree → (node : Node) → walk tree path ≡ Ok node → (bytes : List ℕ) → bytes_of node.content ≡ Ok bytes
-    → IsTree (written_tree tree path node.number bytes offset more)
-write_end tree path offset [] h node walk_ok bytes file = h
+    → IsFormed (written_tree tree path node.number bytes offset more)
+write_end tree path offset [] h node walk_ok bytes file = formed tree h
 write_end tree path offset (b ∷ more) h node walk_ok bytes file = file_end tree path (written bytes offset (b ∷ more)) h node walk_ok bytes file
 
 -- ---- a node taken away
@@ -130,7 +138,7 @@ kind_in None = false
 kind_in (Some shape) = shape.1
 
 -- nothing lies below a file, or below a directory without entries
-nothing_below : (tree : Tree) (path : Path) → IsTree tree → (node : Node) → node_at tree path ≡ Some node → (is_directory node && has_entries tree path) ≡ false → (name : List ℕ) (rest : Path) → shape_at tree (path ++ name ∷ rest) ≡ None
+pub nothing_below : (tree : Tree) (path : Path) → IsTree tree → (node : Node) → node_at tree path ≡ Some node → (is_directory node && has_entries tree path) ≡ false → (name : List ℕ) (rest : Path) → shape_at tree (path ++ name ∷ rest) ≡ None
 nothing_below tree path h node stood empty name rest =
     elim (is_directory node) as (λ b. is_directory node ≡ b → (b && has_entries tree path) ≡ false → shape_at tree (path ++ name ∷ rest) ≡ None) [
       | true ↦ λ d e. leaf tree path h (not_false _ e) name rest
@@ -143,7 +151,7 @@ nothing_below tree path h node stood empty name rest =
     ] refl empty
 
 remove_end : (tree : Tree) (path : Path) → IsTree tree → (node : Node) → walk tree path ≡ Ok node → (u : ℕ) → refuse_if (is_root path) RootFixed ≡ Ok u
-    → (v : ℕ) → refuse_if (is_directory node && has_entries tree path) NotEmpty ≡ Ok v → IsTree (without tree path)
+    → (v : ℕ) → refuse_if (is_directory node && has_entries tree path) NotEmpty ≡ Ok v → IsFormed (without tree path)
 remove_end tree path h node walk_ok u named v empty = record {
   ordered = ordered_without tree path h.ordered;
   shape = same_shape _ _ (remove_shape tree path) (removed_shape (shape_at tree) h.shape path (passed _ RootFixed u named) (nothing_below tree path h node (walked tree path node walk_ok) (passed _ NotEmpty v empty)));
@@ -169,7 +177,7 @@ moved_shape tree from to clear q = ap shape_of (moved_at from to tree clear q) �
 
 rename_end : (tree : Tree) (from to : Path) → IsTree tree → (u : ℕ) → refuse_if (is_root to) Exists ≡ Ok u → (parent : Node) → walk tree (parent_of to) ≡ Ok parent
     → (v : ℕ) → refuse_if (not (is_directory parent)) NotADirectory ≡ Ok v → (w : ℕ) → refuse_if (is_some (node_at tree to)) Exists ≡ Ok w → (x : ℕ) → refuse_if (is_root from) RootFixed ≡ Ok x
-    → (y : ℕ) → refuse_if (is_some (strip from to)) Inside ≡ Ok y → IsTree (widened (moved from to tree) (parent_of to))
+    → (y : ℕ) → refuse_if (is_some (strip from to)) Inside ≡ Ok y → IsFormed (widened (moved from to tree) (parent_of to))
 rename_end tree from to h u named parent walk_ok v holds w free x from_named y outside =
     let above : shape_at tree (parent_of to) ≡ Some (parent.number, true) = ap shape_of (walked tree (parent_of to) parent walk_ok) ∙ ap (λ b. Some (parent.number, b)) (held _ NotADirectory v holds) in
     let clear = is_clear tree to h (nothing _ Exists w free) in
@@ -182,7 +190,7 @@ rename_end tree from to h u named parent walk_ok v holds w free x from_named y o
 -- ---- every command
 
 abbrev LeavesTree : Reply → Tree → Type 0
-LeavesTree reply tree = IsTree tree
+LeavesTree reply tree = IsFormed tree
 
 attempt_shapes : (tree : Tree) (command : Command) → IsTree tree → Accepts LeavesTree (attempt tree command)
 attempt_shapes tree (Mkdir path) h = search (with_ok, make_end) depth 16
@@ -191,18 +199,18 @@ attempt_shapes tree (Write path offset bytes) h = search (with_ok, write_end) de
 attempt_shapes tree (Truncate path size) h = search (with_ok, file_end) depth 12
 attempt_shapes tree (Remove path) h = search (with_ok, remove_end) depth 12
 attempt_shapes tree (Rename from to) h = search (with_ok, rename_end) depth 18
-attempt_shapes tree (Read path offset len) h = search after_all depth 9
-attempt_shapes tree (ListOf path) h = search after_all depth 9
-attempt_shapes tree (Stat path) h = search after_all depth 9
-attempt_shapes tree (Layout path) h = search after_all depth 9
-attempt_shapes tree Space h = h
-attempt_shapes tree Checkpoint h = h
-attempt_shapes tree End h = h
+attempt_shapes tree (Read path offset len) h = search (after_all, formed) depth 9
+attempt_shapes tree (ListOf path) h = search (after_all, formed) depth 9
+attempt_shapes tree (Stat path) h = search (after_all, formed) depth 9
+attempt_shapes tree (Layout path) h = search (after_all, formed) depth 9
+attempt_shapes tree Space h = formed tree h
+attempt_shapes tree Checkpoint h = formed tree h
+attempt_shapes tree End h = formed tree h
 
-settled_shape : (tree : Tree) (r : Result (Reply × Tree) Refusal) → IsTree tree → Accepts LeavesTree r → IsTree (settled tree r).1
+settled_shape : (tree : Tree) (r : Result (Reply × Tree) Refusal) → IsTree tree → Accepts LeavesTree r → IsFormed (settled tree r).1
 settled_shape tree (Ok done) h g = g
-settled_shape tree (Err refusal) h g = h
+settled_shape tree (Err refusal) h g = formed tree h
 
-pub keeps_tree : (tree : Tree) (command : Command) → IsTree tree → IsTree (step tree command).1
+pub keeps_form : (tree : Tree) (command : Command) → IsTree tree → IsFormed (step tree command).1
 unfolding step
-keeps_tree tree command h = settled_shape tree (attempt tree command) h (attempt_shapes tree command h)
+keeps_form tree command h = settled_shape tree (attempt tree command) h (attempt_shapes tree command h)

@@ -1,5 +1,5 @@
 -- What holds of the definition of the tree, in words that its rules don't use.
-use Rattle.std.specs.Prelude.{◌≡◌, ◌≢◌, ◌↔◌, ◌≤◌, ◌<◌, ℕ, true, false, if◌then◌else◌, List, [], ◌++◌, ◌+◌, ◌/◌, length, Contains, Some, None}
+use Rattle.std.specs.Prelude.{◌≡◌, ◌≢◌, ◌↔◌, ◌≤◌, ◌<◌, ℕ, max, true, false, if◌then◌else◌, List, [], ◌++◌, ◌+◌, ◌/◌, length, Contains, Some, None}
 use Rattle.std.specs.Ordering.{eq_by_cmp}
 use Rattle.tree_model.specs.declared.command.Command.{Command}
 use Rattle.tree_model.specs.declared.command.Command.TheVariants.{Write, Rename}
@@ -11,7 +11,7 @@ use Rattle.tree_model.specs.Follow.{Follows, ComesFrom, KeepsUntouched}
 use Rattle.tree_model.specs.Order.{IsOrdered}
 use Rattle.tree_model.specs.Path.{Path, path_cmp, parent_of, strip}
 use Rattle.tree_model.specs.Shape.{IsTree}
-use Rattle.tree_model.specs.Tree.{Tree, new_tree, node_at, with_node, is_used, least_unused}
+use Rattle.tree_model.specs.Tree.{Tree, new_tree, node_at, with_node, entries_of, is_used, least_unused}
 use Rattle.tree_model.specs.Step.{step, refusal_of, is_change}
 use Rattle.tree_model.specs.Touched.{touched}
 
@@ -90,3 +90,14 @@ abbrev pub WidthsNeverFall : Type 0
 WidthsNeverFall = (tree : Tree) (command : Command) → IsTree tree → (p q : Path) (number old new : ℕ)
     → node_at tree p ≡ Some (record { number = number; content = Directory old }) → node_at (step tree command).1 q ≡ Some (record { number = number; content = Directory new })
     → old ≤ new
+
+-- a directory's width after a command is the greater of what it was and its number of entries then, wherever it is before and after
+abbrev pub WidthsAreGreatest : Type 0
+WidthsAreGreatest = (tree : Tree) (command : Command) → IsTree tree → (p q : Path) (number old new : ℕ)
+    → node_at tree p ≡ Some (record { number = number; content = Directory old }) → node_at (step tree command).1 q ≡ Some (record { number = number; content = Directory new })
+    → new ≡ max old (length (entries_of (step tree command).1 q))
+
+-- a directory with a number that was unused has no entries, and width 0
+abbrev pub NewDirectoriesAreEmpty : Type 0
+NewDirectoriesAreEmpty = (tree : Tree) (command : Command) → IsTree tree → (path : Path) (number width : ℕ) → is_used tree number ≡ false
+    → node_at (step tree command).1 path ≡ Some (record { number = number; content = Directory width }) → (length (entries_of (step tree command).1 path) ≡ 0) × (width ≡ 0)

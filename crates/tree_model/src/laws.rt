@@ -1,5 +1,5 @@
 //! Laws of the definition of the tree, each on a function whose contract it is.
-ghost use Rattle.tree_model.specs.Laws.{KeepsOrder, SameTree, PutAt, RefusedLeaves, RefusalTells, ChangesAreDone, ReadingLeaves, GivesLeast, KeepsTree, RenamesMove, NodesFollow, TouchesOnly, TouchesWritten, WidthsNeverFall};
+ghost use Rattle.tree_model.specs.Laws.{KeepsOrder, SameTree, PutAt, RefusedLeaves, RefusalTells, ChangesAreDone, ReadingLeaves, GivesLeast, KeepsTree, RenamesMove, NodesFollow, TouchesOnly, TouchesWritten, WidthsNeverFall, WidthsAreGreatest, NewDirectoriesAreEmpty};
 
 /// A command leaves the tree in the order of its paths, each path once.
 pub fn keeps_order()
@@ -42,7 +42,7 @@ pub fn gives_least()
 {}
 
 /// The tree with the root alone is a tree, and a command leaves a tree a tree: the root is directory 1, a directory is
-/// in front of each path, and a number is of one path.
+/// in front of each path, a number is of one path, and widths and sizes have their limits.
 pub fn keeps_tree()
     ensures { KeepsTree }
 {}
@@ -70,4 +70,14 @@ pub fn touches_written()
 /// A width never falls.
 pub fn widths_never_fall()
     ensures { WidthsNeverFall }
+{}
+
+/// A command makes a directory's width the greater of what it was and its number of entries.
+pub fn widths_are_greatest()
+    ensures { WidthsAreGreatest }
+{}
+
+/// A new directory has no entries, and width 0.
+pub fn new_directories_are_empty()
+    ensures { NewDirectoriesAreEmpty }
 {}

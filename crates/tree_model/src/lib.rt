@@ -19,9 +19,9 @@ mod tests;
 
 pub use command::{Command, MOST_BYTES, Payload, ReadLength, TooLong};
 pub use laws::{
-    changes_are_done, gives_least, keeps_order, keeps_tree, nodes_follow, put_at, reading_leaves,
-    refusal_tells, refused_leaves, renames_move, same_tree, touches_only, touches_written,
-    widths_never_fall,
+    changes_are_done, gives_least, keeps_order, keeps_tree, new_directories_are_empty,
+    nodes_follow, put_at, reading_leaves, refusal_tells, refused_leaves, renames_move, same_tree,
+    touches_only, touches_written, widths_are_greatest, widths_never_fall,
 };
 pub use node::{Content, NameList, Node};
 pub use path::{BadPath, Path};
