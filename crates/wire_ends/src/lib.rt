@@ -9,6 +9,7 @@ mod sink;
 mod source;
 mod std_sink;
 mod std_source;
+mod system_faults;
 #[cfg(test)]
 mod tests;
 

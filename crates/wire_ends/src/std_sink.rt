@@ -1,9 +1,11 @@
 //! A sink over a writer of std.
-ghost use Rattle.std.specs.Prelude.{◌≡◌, ◌<◌, ◌≤◌, ℕ, [], take, length, IfOk, OnOk, OnErr};
+ghost use Rattle.std.specs.Prelude.{◌≡◌, ◌<◌, ◌≤◌, ◌↔◌, ℕ, [], take, length, IsSome, IfOk, OnOk, OnErr};
 ghost use Rattle.std.specs.Io.KnownBytes.{Appends};
 ghost use Rattle.wire_ends.specs.Std.{output_of};
 
+use crate::system_faults::SystemFaults;
 use crate::{Sink, SinkFault};
+use std::io;
 use std::io::Write;
 use vol_numbers::FaultCount;
 
@@ -11,7 +13,7 @@ use vol_numbers::FaultCount;
 #[derive(Drop)]
 pub struct StdSink<W: Write> {
     writer: W,
-    faults: FaultCount,
+    faults: SystemFaults,
 }
 
 impl<W: Write> StdSink<W> {
@@ -21,7 +23,7 @@ impl<W: Write> StdSink<W> {
     {
         StdSink {
             writer,
-            faults: FaultCount::new(),
+            faults: SystemFaults::new(),
         }
     }
 
@@ -36,24 +38,31 @@ impl<W: Write> StdSink<W> {
     pub fn faults(&self) -> FaultCount
         ensures { result ≡ (⟦<StdSink<W> as Sink>⟧.seen self.now).faults }
     {
-        self.faults
+        self.faults.count()
+    }
+
+    /// The system's error of the last call that failed, if one has. Where a writer takes no byte, it is one of the kind `WriteZero`.
+    pub fn error(&self) -> Option<io::Error>
+        ensures { IsSome result ↔ 0 < (⟦<StdSink<W> as Sink>⟧.seen self.now).faults }
+    {
+        self.faults.last()
     }
 }
 
 /// Has a writer take some of the bytes, at least one.
-fn put_some<W: Write>(writer: &mut W, bytes: &[u8]) -> Result<usize, SinkFault>
+fn put_some<W: Write>(writer: &mut W, bytes: &[u8]) -> io::Result<usize>
     ensures count { IfOk result (λ count. (0 < count) × (count ≤ length bytes.now)) }
     ensures put { IfOk result (λ count. Appends (W.contents writer.old) (W.contents writer.new) (take count bytes.now)) }
     ensures none { OnErr result (Appends (W.contents writer.old) (W.contents writer.new) []) }
 {
     match writer.write(bytes) {
-        Ok(0) | Err(_) => Err(SinkFault),
-        Ok(count) => Ok(count),
+        Ok(0) => Err(io::ErrorKind::WriteZero.into()),
+        written => written,
     }
 }
 
 /// Has a writer take all of the bytes, and let them out of its buffers.
-fn put_all<W: Write>(writer: &mut W, bytes: &[u8]) -> Result<(), SinkFault>
+fn put_all<W: Write>(writer: &mut W, bytes: &[u8]) -> io::Result<()>
     ensures whole { OnOk result (Appends (W.contents writer.old) (W.contents writer.new) bytes.now) }
     ensures part { OnErr result ((count : ℕ) × Appends (W.contents writer.old) (W.contents writer.new) (take count bytes.now)) }
 {
@@ -61,10 +70,7 @@ fn put_all<W: Write>(writer: &mut W, bytes: &[u8]) -> Result<(), SinkFault>
     while done < bytes.len() {
         done += put_some(writer, &bytes[done..])?;
     }
-    match writer.flush() {
-        Ok(()) => Ok(()),
-        Err(_) => Err(SinkFault),
-    }
+    writer.flush()
 }
 
 impl<W: Write> Sink for StdSink<W> {
@@ -73,10 +79,12 @@ impl<W: Write> Sink for StdSink<W> {
     ghost seen = { λ s. output_of (W.contents s.writer) s.faults };
 
     fn put(&mut self, bytes: &[u8]) -> Result<(), SinkFault> {
-        let done = put_all(&mut self.writer, bytes);
-        if done.is_err() {
-            self.faults.raise();
+        match put_all(&mut self.writer, bytes) {
+            Ok(()) => Ok(()),
+            Err(error) => {
+                self.faults.raise(error);
+                Err(SinkFault)
+            }
         }
-        done
     }
 }

@@ -1,8 +1,10 @@
 //! A source over a reader of std.
-ghost use Rattle.std.specs.Prelude.{◌≡◌};
+ghost use Rattle.std.specs.Prelude.{◌≡◌, ◌<◌, ◌↔◌, IsSome};
 ghost use Rattle.wire_ends.specs.Std.{input_of};
 
+use crate::system_faults::SystemFaults;
 use crate::{Source, SourceFault};
+use std::io;
 use std::io::Read;
 use vol_numbers::FaultCount;
 
@@ -10,7 +12,7 @@ use vol_numbers::FaultCount;
 #[derive(Drop)]
 pub struct StdSource<R: Read> {
     reader: R,
-    faults: FaultCount,
+    faults: SystemFaults,
 }
 
 impl<R: Read> StdSource<R> {
@@ -20,7 +22,7 @@ impl<R: Read> StdSource<R> {
     {
         StdSource {
             reader,
-            faults: FaultCount::new(),
+            faults: SystemFaults::new(),
         }
     }
 
@@ -28,7 +30,14 @@ impl<R: Read> StdSource<R> {
     pub fn faults(&self) -> FaultCount
         ensures { result ≡ (⟦<StdSource<R> as Source>⟧.seen self.now).faults }
     {
-        self.faults
+        self.faults.count()
+    }
+
+    /// The system's error of the last call that failed, if one has.
+    pub fn error(&self) -> Option<io::Error>
+        ensures { IsSome result ↔ 0 < (⟦<StdSource<R> as Source>⟧.seen self.now).faults }
+    {
+        self.faults.last()
     }
 }
 
@@ -40,8 +49,8 @@ impl<R: Read> Source for StdSource<R> {
     fn take(&mut self, into: &mut [u8]) -> Result<usize, SourceFault> {
         match self.reader.read(into) {
             Ok(count) => Ok(count),
-            Err(_) => {
-                self.faults.raise();
+            Err(error) => {
+                self.faults.raise(error);
                 Err(SourceFault)
             }
         }
