@@ -4,6 +4,7 @@ use Rattle.vol_numbers.specs.Block.{zero_block}
 use Rattle.vol_numbers.specs.declared.block.Block.{Block}
 use Rattle.vol_numbers.specs.Layout.{Layout, count_blocks, area_start}
 use Rattle.disk_model.specs.Disk.{State, EachImage, written, synced, is_among, DuringWriteThrough}
+use Rattle.root_switch.specs.Current.{selector_block}
 use Rattle.log_volume.specs.Blocks.{count_block, index_block, inode_block}
 use Rattle.log_volume.specs.Fresh.{IsFresh, root_block}
 
@@ -24,10 +25,10 @@ with_root g s = synced (written 1 (root_block g) s)
 abbrev pub with_selector : State → State
 with_selector s = synced (written 0 zero_block s)
 
--- nothing is unsynced, the selector is zero, and the volume is fresh
+-- nothing is unsynced, the selector is that of slot 0, and the volume is fresh
 pub record IsFormatted (g : Layout) (s : State) : Type 0 where
   pub all_synced : s.unsynced ≡ []
-  pub selector : slice_get s.contents 0 ≡ Some zero_block
+  pub selector : slice_get s.contents 0 ≡ Some (selector_block 0)
   pub fresh : IsFresh g s.contents
 
 -- all that a fresh volume has but the selector
