@@ -114,6 +114,7 @@ fn answer_item<D: Disk, W: Sink>(
         (point text from (W.seen sink.old) (kept_by volume.old) (D.state disk.old) (D.past disk.old))
         (point (left_by result behind) to (W.seen sink.new) (kept_by volume.new) (D.state disk.new) (D.past disk.new))
         (ended_by result) }
+    ensures goes_on { IsNone (ended_by result) → item.now ≢ Ended }
     ensures layout { volume.new.root.layout ≡ volume.old.root.layout }
     ensures sound { IsNone (ended_by result) → volume.new.is_failed ≡ false }
     ensures fits { IsNone (ended_by result) → IsTrue D.tells → Fits volume.new (D.state disk.new) }

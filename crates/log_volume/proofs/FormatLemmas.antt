@@ -171,7 +171,7 @@ module _ (g : Layout) (valid : IsValid g) (s : State) (long : length s.contents 
       }
 
   -- each moment at which the root and the selector are written
-  pub moment_at_root : (m : State) → WritesRootFirst g (with_inodes g (with_counts g (count_blocks g) s)) m → IsMomentOfFormat g s m
+  pub moment_at_root : (m : State) → WritesRootFirst (root_block g) (with_inodes g (with_counts g (count_blocks g) s)) m → IsMomentOfFormat g s m
   moment_at_root m writes =
       let inodes_in = with_inodes g (with_counts g (count_blocks g) s) in
       let keeps : KeepsSelector s inodes_in = keeps_on (counts_keep g (count_blocks g) s) (inodes_keep g (with_counts g (count_blocks g) s)) in
@@ -189,26 +189,21 @@ module _ (g : Layout) (valid : IsValid g) (s : State) (long : length s.contents 
       writes
 
 -- the state after each part of a format
-pub parts_written : (g : Layout) (s one two three : State) → one ≡ with_counts g (count_blocks g) s → two ≡ with_inodes g one → three ≡ with_selector (with_root g two)
+pub parts_written : (g : Layout) (s one two three : State) (r : Block) → r ≡ root_block g
+    → one ≡ with_counts g (count_blocks g) s → two ≡ with_inodes g one → three ≡ with_selector (synced (written 1 r two))
     → three ≡ with_selector (with_root g (with_inodes g (with_counts g (count_blocks g) s)))
-parts_written g s one two three first second third = third ∙ ap (λ (t : State). with_selector (with_root g t)) (second ∙ ap (with_inodes g) first)
-
--- the root and then the selector, each with a sync
-pub root_written : (g : Layout) (s one two : State) (z r : Block) → z ≡ zero_block → r ≡ root_block g
-    → one ≡ synced (written 1 r s) → two ≡ synced (written 0 z one) → two ≡ with_selector (with_root g s)
-root_written g s one two z r is_z is_r first second = second ∙ (λ i. synced (written 0 (is_z i) ((first ∙ (λ j. synced (written 1 (is_r j) s))) i)))
+parts_written g s one two three r is_r first second third =
+    third ∙ (λ i. with_selector (synced (written 1 (is_r i) ((second ∙ ap (with_inodes g) first) i))))
 
 -- the moments while the root is written
-pub adds_root : {old new : Past} (g : Layout) (s : State) (r : Block) → r ≡ root_block g → Adds old new (DuringWriteThrough 1 r s) → Adds old new (WritesRootFirst g s)
-adds_root g s r is_r call = adds_weaker call (λ m during. inl (subst (λ (b : Block). DuringWriteThrough 1 b s m) is_r during))
+pub adds_root : {old new : Past} (r : Block) (s : State) → Adds old new (DuringWriteThrough 1 r s) → Adds old new (WritesRootFirst r s)
+adds_root r s call = adds_weaker call (λ m during. inl during)
 
 -- and while the selector is, with the root on the disk
-pub adds_selector : {old mid new : Past} (g : Layout) (s one : State) (r z : Block) → r ≡ root_block g → z ≡ zero_block → one ≡ synced (written 1 r s)
-    → Adds old mid (DuringWriteThrough 1 r s) → Adds mid new (DuringWriteThrough 0 z one) → Adds old new (WritesRootFirst g s)
-adds_selector g s one r z is_r is_z first root selector =
-    let is_one : one ≡ with_root g s = first ∙ (λ i. synced (written 1 (is_r i) s)) in
-    adds_then (adds_root g s r is_r root) selector
-    (λ m during. inr (subst (λ (t : State). DuringWriteThrough 0 zero_block t m) is_one (subst (λ (b : Block). DuringWriteThrough 0 b one m) is_z during)))
+pub adds_selector : {old mid new : Past} (r : Block) (s one : State) (z : Block) → z ≡ zero_block → one ≡ synced (written 1 r s)
+    → Adds old mid (DuringWriteThrough 1 r s) → Adds mid new (DuringWriteThrough 0 z one) → Adds old new (WritesRootFirst r s)
+adds_selector r s one z is_z first root selector = adds_then (adds_root r s root) selector
+    (λ m during. inr (subst (λ (t : State). DuringWriteThrough 0 zero_block t m) first (subst (λ (b : Block). DuringWriteThrough 0 b one m) is_z during)))
 
 -- the moments before the root is written
 pub adds_bodies : {p0 p1 p2 : Past} (g : Layout) (s one : State) → one ≡ with_counts g (count_blocks g) s → Adds p0 p1 (KeepsSelector s) → Adds p1 p2 (KeepsSelector one) → Adds p0 p2 (IsMomentOfFormat g s)
@@ -217,12 +212,12 @@ adds_bodies g s one first counts inodes =
     adds_then (adds_weaker counts (λ m k. inl k)) inodes (λ m k. inl (keeps_on keeps k))
 
 -- the moments of the whole from those of its parts
-pub adds_moments : {p0 p1 p2 p3 : Past} (g : Layout) (s one two : State) → IsValid g → length s.contents ≡ g.blocks
+pub adds_moments : {p0 p1 p2 p3 : Past} (g : Layout) (s one two : State) (r : Block) → IsValid g → length s.contents ≡ g.blocks → r ≡ root_block g
     → one ≡ with_counts g (count_blocks g) s → two ≡ with_inodes g one
-    → Adds p0 p1 (KeepsSelector s) → Adds p1 p2 (KeepsSelector one) → Adds p2 p3 (WritesRootFirst g two) → Adds p0 p3 (IsMomentOfFormat g s)
-adds_moments g s one two valid long first second counts inodes root =
+    → Adds p0 p1 (KeepsSelector s) → Adds p1 p2 (KeepsSelector one) → Adds p2 p3 (WritesRootFirst r two) → Adds p0 p3 (IsMomentOfFormat g s)
+adds_moments g s one two r valid long is_r first second counts inodes root =
     let to_two = second ∙ ap (with_inodes g) first in
-    adds_then (adds_bodies g s one first counts inodes) root (λ m writes. moment_at_root g valid s long m (subst (λ (t : State). WritesRootFirst g t m) to_two writes))
+    adds_then (adds_bodies g s one first counts inodes) root (λ m writes. moment_at_root g valid s long m (subst (λ (t : State). WritesRootFirst (root_block g) t m) to_two (subst (λ (b : Block). WritesRootFirst b two m) is_r writes)))
 
 -- a moment has the blocks
 pub long_moment : (g : Layout) (s m : State) → length s.contents ≡ g.blocks → IsMomentOfFormat g s m → length m.contents ≡ g.blocks

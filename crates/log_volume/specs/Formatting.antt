@@ -49,8 +49,8 @@ pub record KeepsSelector (before s : State) : Type 0 where
   pub closed : is_among before.unsynced 0 ≡ false → is_among s.unsynced 0 ≡ false
 
 -- the root is being written, or all is on the disk and the selector is being written
-abbrev pub WritesRootFirst : Layout → State → State → Type 0
-WritesRootFirst g before s = DuringWriteThrough 1 (root_block g) before s ⊎ DuringWriteThrough 0 zero_block (with_root g before) s
+abbrev pub WritesRootFirst : Block → State → State → Type 0
+WritesRootFirst root before s = DuringWriteThrough 1 root before s ⊎ DuringWriteThrough 0 zero_block (synced (written 1 root before)) s
 
 -- a moment of a format: the selector isn't written yet, or each image has all else
 abbrev pub IsMomentOfFormat : Layout → State → State → Type 0

@@ -4,7 +4,7 @@ ghost use Rattle.vol_numbers.specs.Block.{zero_block};
 ghost use Rattle.vol_numbers.specs.Cause.{HasCause};
 ghost use Rattle.vol_numbers.specs.Layout.{count_blocks, area_start, area_size};
 ghost use Rattle.vol_numbers.specs.Geometry.{layout_of};
-ghost use Rattle.disk_model.specs.Disk.{EachImage, is_among};
+ghost use Rattle.disk_model.specs.Disk.{EachImage, written, synced, is_among};
 ghost use Rattle.disk_model.specs.Past.{Adds};
 ghost use Rattle.log_volume.specs.Fresh.{root_block};
 ghost use Rattle.log_volume.specs.Formatting.{with_counts, with_inodes, with_root, with_selector, IsFormatted, HasSelectorLast, KeepsSelector, WritesRootFirst, IsMomentOfFormat};
@@ -41,7 +41,7 @@ fn write_volume<D: Disk>(disk: &mut D, g: &Geometry) -> Result<(), DiskFault>
 {
     write_counts(disk, g)?;
     write_inodes(disk, g)?;
-    write_root(disk, g)
+    write_named(disk, &root_block(g))
 }
 
 /// Writes the count blocks into their first homes.
@@ -70,15 +70,17 @@ fn write_inodes<D: Disk>(disk: &mut D, g: &Geometry) -> Result<(), DiskFault>
     disk.write_block(g.area_start() + 1, &index_block(g))
 }
 
-/// Writes the root, and the selector that names it.
-fn write_root<D: Disk>(disk: &mut D, g: &Geometry) -> Result<(), DiskFault>
-    requires { (D.fixed disk.old).size ≡ (layout_of g.now).blocks }
-    ensures written { OnOk result (IsTrue D.tells → D.state disk.new ≡ with_selector (with_root (layout_of g.now) (D.state disk.old))) }
-    ensures order { IsTrue D.tells → Adds (D.past disk.old) (D.past disk.new) (WritesRootFirst (layout_of g.now) (D.state disk.old)) }
+/// Writes the root, and then the selector that names it.
+#[tactic(auto, using(crate::proofs::FormatLemmas::adds_root, crate::proofs::FormatLemmas::adds_selector))]
+fn write_named<D: Disk>(disk: &mut D, root: &Block) -> Result<(), DiskFault>
+    requires { 1 < (D.fixed disk.old).size }
+    ensures written { OnOk result (IsTrue D.tells → D.state disk.new ≡ synced (written 0 zero_block (synced (written 1 root.now (D.state disk.old))))) }
+    ensures order { IsTrue D.tells → Adds (D.past disk.old) (D.past disk.new) (WritesRootFirst root.now (D.state disk.old)) }
     ensures fixed { D.fixed disk.new ≡ D.fixed disk.old }
     ensures cause { HasCause (D.faults disk.old) (D.faults disk.new) result }
 {
     // All else has to be on the disk before the selector names the root.
-    write_through(disk, 1, &root_block(g))?;
-    write_through(disk, 0, &Block::zero())
+    write_through(disk, 1, root)?;
+    write_through(disk, 0, &Block::zero())?;
+    Ok(())
 }

@@ -20,8 +20,8 @@ returns-in-Ok-clause-session g c text behind from to read =
     said read.told (λ told. given_of (next text) behind c.args.item.now not_ended (read.comes told))
     c.in-Ok.answer c.answer_to.new.volume c.in-Ok.ensures.legal c.in-Ok.ensures.kept c.in-Ok.ensures.fits c.in-Ok.ensures.during c.say.result c.say.ensures.says
 
-pub returns-clause-session : goal.returns-clause-session
-returns-clause-session g c text behind from to read =
+pub returns-in-Err-clause-session : goal.returns-in-Err-clause-session
+returns-in-Err-clause-session g c text behind from to read =
     let not_ended : c.args.item.now ≡ Ended → ⊥ = λ is. false≢true (sym c.if-is_ended.false ∙ c.is_ended.ensures.1 is) in
     stopped_at read.told (λ told. given_of (next text) behind c.args.item.now not_ended (read.comes told))
     c.in-Err.field-0 c.in-Err.ensures.legal c.in-Err.ensures.during c.in-Err.ensures.left c.in-Err.ensures.unsynced

@@ -13,12 +13,12 @@ pub returns-clause-moments : goal.returns-clause-moments
 returns-clause-moments g c tells =
     let layout = layout_of c.args.g.now in
     let long : length (g.D.Disk.state c.args.disk.now).contents ≡ layout.blocks = g.met.D.Disk.has_size c.args.disk.now tells ∙ c.requires in
-    adds_moments layout _ _ _ c.args.g.now.valid long (c.in_ok-write_counts.ensures.written tells) (c.in_ok-write_inodes.ensures.written tells)
-    (c.write_counts.ensures.moments tells) (c.write_inodes.ensures.moments tells) (c.write_root.ensures.order tells)
+    adds_moments layout _ _ _ _ c.args.g.now.valid long c.root_block.ensures (c.in_ok-write_counts.ensures.written tells) (c.in_ok-write_inodes.ensures.written tells)
+    (c.write_counts.ensures.moments tells) (c.write_inodes.ensures.moments tells) (c.write_named.ensures.order tells)
 
 pub returns-clause-formatted : goal.returns-clause-formatted
-returns-clause-formatted g c = on_ok_weaker c.write_root.result (λ last tells.
+returns-clause-formatted g c = on_ok_weaker c.write_named.result (λ last tells.
     let layout = layout_of c.args.g.now in
     let long : length (g.D.Disk.state c.args.disk.now).contents ≡ layout.blocks = g.met.D.Disk.has_size c.args.disk.now tells ∙ c.requires in
-    subst (IsFormatted layout) (sym (parts_written layout (g.D.Disk.state c.args.disk.now) _ _ _ (c.in_ok-write_counts.ensures.written tells) (c.in_ok-write_inodes.ensures.written tells) (last tells)))
-    (formatted layout c.args.g.now.valid (g.D.Disk.state c.args.disk.now) long)) c.write_root.ensures.written
+    subst (IsFormatted layout) (sym (parts_written layout (g.D.Disk.state c.args.disk.now) _ _ _ _ c.root_block.ensures (c.in_ok-write_counts.ensures.written tells) (c.in_ok-write_inodes.ensures.written tells) (last tells)))
+    (formatted layout c.args.g.now.valid (g.D.Disk.state c.args.disk.now) long)) c.write_named.ensures.written
