@@ -94,7 +94,11 @@ fn serve_item<D: Disk, R: Source, W: Sink>(
     ensures fixed { D.fixed disk.new ≡ D.fixed disk.old }
 {
     match reader.read_command(source) {
-        Ok(item) => answer_item(alloc, volume, disk, sink, &item),
+        Ok(item) => {
+            let served = answer_item(alloc, volume, disk, sink, &item);
+            drop(item);
+            served
+        }
         Err(fault) => Served::Ends(status_of(fault)),
     }
 }

@@ -23,4 +23,4 @@ returns-in-Err-clause-session g c =
     (λ told is. let left = c.in-Err.ensures.undecided c.requires.no_fault (ap failed is) in record { held = c.read_command.new.self.held; parts = left.kept told; undecided = left.undecided })))
 
 pub returns-in-Ok-clause-session : goal.returns-in-Ok-clause-session
-returns-in-Ok-clause-session g c = c.answer_item.ensures.session _ _ _ _ (record { told = c.read_command.ensures.takes.takes.told; comes = c.in-Ok.ensures.reads c.requires.no_fault })
+returns-in-Ok-clause-session g c = c.answer_item-served.ensures.session _ _ _ _ (record { told = c.read_command.ensures.takes.takes.told; comes = c.in-Ok.ensures.reads c.requires.no_fault })
