@@ -2,7 +2,7 @@
 ghost use Rattle.std.specs.Prelude.{◌≡◌, ◌≢◌, ◌<◌, ◌-◌, [], IfOk, OnOk, OnErr, IsTrue};
 ghost use Rattle.vol_numbers.specs.Cause.{HasCause};
 ghost use Rattle.vol_numbers.specs.Geometry.{layout_of};
-ghost use Rattle.disk_model.specs.Disk.{EachImage};
+ghost use Rattle.disk_model.specs.Disk.{EachImage, DuringWrite, DuringWriteThrough, written, synced};
 ghost use Rattle.disk_model.specs.Past.{Adds};
 ghost use Rattle.root_switch.specs.Root.{root_of, root_in, root_bytes, HasGeometry};
 ghost use Rattle.root_switch.specs.Current.{selector_block};
@@ -33,11 +33,41 @@ pub fn commit<D: Disk>(disk: &mut D, slot: u32, body: &RootBody) -> Result<u32, 
     ensures given { D.given disk.new ≡ D.given disk.old }
     ensures cause { HasCause (D.faults disk.old) (D.faults disk.new) result }
 {
-    let other = 1 - slot;
     // The new root and all that it leads to have to be on the disk before the selector names it.
-    write_through(disk, 1 + other, &root_block(body))?;
-    write_through(disk, 0, &selector(other))?;
-    Ok(other)
+    write_other_slot(disk, slot, &root_block(body))?;
+    write_selector(disk, 1 - slot)?;
+    Ok(1 - slot)
+}
+
+/// Has a block on the disk in the slot that is not current, and all that was written before.
+fn write_other_slot<D: Disk>(disk: &mut D, slot: u32, root: &Block) -> Result<(), DiskFault>
+    requires slot { slot < 2 }
+    requires room { 2 - slot < (D.fixed disk.old).size }
+    ensures done { OnOk result (IsTrue D.tells → D.state disk.new ≡ synced (written (2 - slot) root.now (D.state disk.old))) }
+    ensures left { OnErr result (IsTrue D.tells → DuringWrite (2 - slot) (D.state disk.old) (D.state disk.new)) }
+    ensures unsynced { OnErr result (IsTrue D.tells → (D.state disk.new).unsynced ≢ []) }
+    ensures moments { IsTrue D.tells → Adds (D.past disk.old) (D.past disk.new) (DuringWriteThrough (2 - slot) root.now (D.state disk.old)) }
+    ensures fixed { D.fixed disk.new ≡ D.fixed disk.old }
+    ensures given { D.given disk.new ≡ D.given disk.old }
+    ensures cause { HasCause (D.faults disk.old) (D.faults disk.new) result }
+{
+    write_through(disk, 2 - slot, root)
+}
+
+/// Has the selector of a slot on the disk.
+fn write_selector<D: Disk>(disk: &mut D, slot: u32) -> Result<(), DiskFault>
+    requires slot { slot < 2 }
+    requires room { 0 < (D.fixed disk.old).size }
+    ensures done { OnOk result (IsTrue D.tells → D.state disk.new ≡ synced (written 0 (selector_block slot) (D.state disk.old))) }
+    ensures left { OnErr result (IsTrue D.tells → DuringWrite 0 (D.state disk.old) (D.state disk.new)) }
+    ensures unsynced { OnErr result (IsTrue D.tells → (D.state disk.new).unsynced ≢ []) }
+    ensures moments { IsTrue D.tells → Adds (D.past disk.old) (D.past disk.new) (DuringWriteThrough 0 (selector_block slot) (D.state disk.old)) }
+    ensures fixed { D.fixed disk.new ≡ D.fixed disk.old }
+    ensures given { D.given disk.new ≡ D.given disk.old }
+    ensures cause { HasCause (D.faults disk.old) (D.faults disk.new) result }
+{
+    let block = selector(slot);
+    write_through(disk, 0, &block)
 }
 
 /// The block that spells a root.
@@ -55,7 +85,7 @@ fn selector(slot: u32) -> Block
     requires { slot < 2 }
     ensures { result ≡ selector_block slot }
 {
-    let mut block = Block::zero();
-    block.bytes[0] = slot as u8;
-    block
+    let mut bytes = [0; 4096];
+    bytes[0] = slot as u8;
+    Block { bytes }
 }
