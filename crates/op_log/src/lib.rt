@@ -12,8 +12,6 @@ mod names;
 mod reading;
 mod record_reading;
 mod spelling;
-#[cfg(test)]
-mod tests;
 
 pub use appending::append;
 pub use blocks::{blocks_of, is_logged, record_blocks};

@@ -14,8 +14,6 @@ mod refusal;
 mod refusals;
 mod reply;
 mod report;
-#[cfg(test)]
-mod tests;
 
 pub use command::{Command, MOST_BYTES, Payload, ReadLength, TooLong};
 pub use laws::{
