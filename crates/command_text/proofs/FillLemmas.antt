@@ -12,7 +12,8 @@ use Rattle.command_text.specs.declared.item.Item.TheVariants as item
 use Rattle.command_text.proofs.FrontLemmas.{front_short, asks_with_more}
 use Rattle.command_text.specs.declared.fault.TextFault.TheVariants.{Source, BadStream, Budget, OutOfMemory}
 use Rattle.wire_ends.specs.Ends.{Input}
-use Rattle.command_text.specs.Reading.{Reading, Undecided, LastPiece, TakesNeeded}
+use Rattle.command_text.specs.Reading.{Reading, Undecided, TakesNeeded}
+use Rattle.command_text.proofs.PieceLemmas.{needs_none, needs_piece, needs_both, needs_weaker}
 use Rattle.command_text.specs.Filling.{HoldsMore, TakesPiece, Fills, InputEnds, EndsInside, Stopped, Fails, AsksToWrite, IsShorter, Reads, Answers, IsWrong}
 
 -- where nothing changed, the piece is empty
@@ -38,7 +39,7 @@ no_fill Holds reading source = record {
   takes = record { told = λ told. told; next = λ told. refl };
   held = sym (append-nil reading.held);
   counted = omega arith;
-  needed = inl refl;
+  needed = needs_none Holds reading.held;
   over = refl;
   fault = refl;
 }
@@ -53,13 +54,7 @@ fills_more Holds old mid new from between to fills needed piece = record {
   };
   held = piece.held ∙ ap (λ (l : List ℕ). l ++ piece.piece) fills.held ∙ append_assoc old.held fills.taken piece.piece;
   counted = omega (arith, fills.counted, piece.counted, length-append fills.taken piece.piece);
-  needed = inr (record {
-    before = fills.taken;
-    piece = piece.piece;
-    parts = refl;
-    at_most = piece.at_most;
-    needed = subst Holds fills.held needed;
-  });
+  needed = needs_both Holds old.held fills.taken piece.piece fills.needed (needs_piece Holds (old.held ++ fills.taken) piece.piece piece.at_most (subst Holds fills.held needed));
   over = piece.over ∙ fills.over;
   fault = piece.fault ∙ fills.fault;
 }
@@ -102,7 +97,7 @@ fills_weaker One Two old new from to follows fills = record {
   takes = fills.takes;
   held = fills.held;
   counted = fills.counted;
-  needed = ⊎_elim (λ (none : fills.taken ≡ []). inl none) (λ (last : LastPiece One old.held fills.taken). inr (record { before = last.before; piece = last.piece; parts = last.parts; at_most = last.at_most; needed = follows last.before last.needed })) fills.needed;
+  needed = needs_weaker One Two old.held fills.taken follows fills.needed;
   over = fills.over;
   fault = fills.fault;
 }
@@ -117,16 +112,7 @@ fills_both Holds old mid new from between to one two = record {
   };
   held = two.held ∙ ap (λ (l : List ℕ). l ++ two.taken) one.held ∙ append_assoc old.held one.taken two.taken;
   counted = omega (arith, one.counted, two.counted, length-append one.taken two.taken);
-  needed = ⊎_elim
-      (λ (none : two.taken ≡ []). subst (TakesNeeded Holds old.held) (sym (ap (λ (l : List ℕ). one.taken ++ l) none ∙ append-nil one.taken)) one.needed)
-      (λ (last : LastPiece Holds mid.held two.taken). inr (record {
-        before = one.taken ++ last.before;
-        piece = last.piece;
-        parts = ap (λ (l : List ℕ). one.taken ++ l) last.parts ∙ sym (append_assoc one.taken last.before last.piece);
-        at_most = last.at_most;
-        needed = subst Holds (ap (λ (l : List ℕ). l ++ last.before) one.held ∙ append_assoc old.held one.taken last.before) last.needed;
-      }))
-      two.needed;
+  needed = needs_both Holds old.held one.taken two.taken one.needed (subst (λ (l : List ℕ). TakesNeeded Holds l two.taken) one.held two.needed);
   over = two.over ∙ one.over;
   fault = two.fault ∙ one.fault;
 }

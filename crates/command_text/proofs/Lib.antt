@@ -12,6 +12,7 @@ pub mod HeldLemmas
 pub mod LineLemmas
 pub mod NameLemmas
 pub mod NumberLemmas
+pub mod PieceLemmas
 pub mod PlaceLemmas
 pub mod PathLemmas
 pub mod SpellingLemmas

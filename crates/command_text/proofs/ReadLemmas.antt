@@ -14,7 +14,8 @@ use Rattle.command_text.specs.declared.item.Item.TheVariants as item
 use Rattle.command_text.specs.Front.{front}
 use Rattle.command_text.specs.Text.{Text, next, next_from, at_input_end, is_end}
 use Rattle.command_text.specs.Text.Next.{Given, Ended, Bad, Spent}
-use Rattle.command_text.specs.Reading.{LastPiece, Reading, unread, ReadsNext, Undecided, Falls, settled}
+use Rattle.command_text.proofs.PieceLemmas.{LastPiece, last_piece}
+use Rattle.command_text.specs.Reading.{Reading, unread, ReadsNext, Undecided, Falls, settled}
 use Rattle.command_text.specs.Filling.{Fills, IsWrong, IsWhole, EndsInside, Stopped, GivesItem, Answers, ReadsSettled}
 
 abbrev text_of : List ℕ → List ℕ → ℕ → Text
@@ -145,7 +146,7 @@ item_holds old full before from to item fills gives few =
     let needed = gives.needs (old.held ++ last.before) last.piece parts last.needed in
     let at_most = last.at_most in
     omega (arith, ap length parts, length-append (old.held ++ last.before) last.piece))
-    fills.needed
+    (last_piece Undecided old.held fills.taken fills.needed)
 
 pub settled_holds : (old new : Reading) (from to : Input) (result : Result Item TextFault) → ReadsSettled old new from to result → length old.held ≤ 4096 → OnOk result (length new.held ≤ 4096)
 settled_holds old new from to (Ok (item.Command command)) reads few =

@@ -1,5 +1,6 @@
 pub mod Filling
 pub mod Front
+pub mod Holding
 pub mod Lines
 pub mod Numbers
 pub mod Paths

@@ -1,5 +1,6 @@
 -- What a reader has, and what a call of it does.
-use Rattle.std.specs.Prelude.{◌≡◌, ◌+◌, ◌++◌, ◌<◌, ◌≤◌, ◌⊎◌, ℕ, Bool, List, [], length, Option, Some, Result, Ok, Err, IsTrue}
+use Rattle.std.specs.Prelude.{◌≡◌, ◌+◌, ◌++◌, ◌<◌, ◌≤◌, ℕ, Bool, List, [], ◌∷◌, length, Option, Some, Result, Ok, Err, IsTrue}
+use Rattle.std.specs.List.{concat}
 use Rattle.vol_numbers.specs.Cause.{raised}
 use Rattle.wire_ends.specs.Ends.{Input, Takes}
 use Rattle.command_text.specs.declared.item.Item.{Item}
@@ -36,19 +37,18 @@ ReadsNext next behind (Err OutOfMemory) = Unit {0}
 abbrev pub Undecided : List ℕ → Type 0
 Undecided bytes = front bytes ≡ Partial
 
--- The last piece that was taken has at most 4,096 bytes. It was needed: this holds of the bytes before it.
-pub record LastPiece (Holds : List ℕ → Type 0) (held taken : List ℕ) : Type 0 where
-  pub before : List ℕ
-  pub piece : List ℕ
-  pub parts : taken ≡ before ++ piece
-  pub at_most : length piece ≤ 4096
-  pub needed : Holds (held ++ before)
+-- each piece has at most 4,096 bytes, and was needed: this holds of the bytes before it
+abbrev pub EachNeeded : (List ℕ → Type 0) → List ℕ → List (List ℕ) → Type 0
+EachNeeded Holds before [] = Unit {0}
+EachNeeded Holds before (piece ∷ pieces) = (length piece ≤ 4096) × Holds before × EachNeeded Holds (before ++ piece) pieces
 
--- nothing was taken, or no piece that wasn't needed
-abbrev pub TakesNeeded : (List ℕ → Type 0) → List ℕ → List ℕ → Type 0
-TakesNeeded Holds held taken = (taken ≡ []) ⊎ LastPiece Holds held taken
+-- behind the bytes that were held, these were taken in pieces, each of which was needed
+pub record TakesNeeded (Holds : List ℕ → Type 0) (held taken : List ℕ) : Type 0 where
+  pub pieces : List (List ℕ)
+  pub parts : taken ≡ concat pieces
+  pub each : EachNeeded Holds held pieces
 
--- Bytes were taken, as many as the budget has fewer now. A piece was taken only while the bytes that were held decided no answer.
+-- Bytes were taken, as many as the budget has fewer now. Each piece was taken only while the bytes that were held decided no answer.
 pub record TakesForNext (old new : Reading) (from to : Input) : Type 0 where
   pub taken : List ℕ
   pub takes : Takes from to taken

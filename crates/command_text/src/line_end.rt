@@ -1,7 +1,8 @@
 //! Where the first line ends.
-ghost use Rattle.std.specs.Prelude.{◌≡◌, ◌<◌, length, position, IfSome};
+ghost use Rattle.std.specs.Prelude.{◌≡◌, ◌≤◌, length, position};
 ghost use Rattle.command_text.specs.Front.{is_newline};
 ghost use Rattle.command_text.specs.Filling.{FindsLineEnd};
+ghost use Rattle.command_text.specs.declared.line_end.LineEnd.TheVariants.{Missing};
 
 /// How many bytes a line has at most, without its newline.
 pub(crate) const LONGEST_LINE: usize = 8_192;
@@ -19,7 +20,8 @@ pub(crate) enum LineEnd {
 
 /// Where the first line of the bytes ends.
 pub(crate) fn line_end(bytes: &[u8]) -> LineEnd
-    ensures { FindsLineEnd bytes.now result }
+    ensures end { FindsLineEnd bytes.now result }
+    ensures short { result ≡ Missing → length bytes.now ≤ 8192 }
 {
     match first_newline(bytes) {
         Some(end) if end <= LONGEST_LINE => LineEnd::At(end),

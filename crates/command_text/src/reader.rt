@@ -29,12 +29,13 @@ impl Model for CommandReader {
 
     ghost Value = { Reading };
 
-    ghost view = { λ r. record { held = r.held; budget = r.budget; is_over = r.is_over; fault = r.fault } };
+    ghost view = { λ r. record { held = r.held.bytes; budget = r.budget; is_over = r.is_over; fault = r.fault } };
 }
 
 impl CommandReader {
     ghost use Rattle.std.specs.Prelude.{◌≡◌, ◌<◌, ◌≤◌, ◌+◌, [], true, false, Some, None, Ok, Err, length, drop, position, IfOk, IfErr, IfNone, IfSome, OnOk, OnErr, IsErrOf, IsTrue, MatchOption};
     ghost use Rattle.command_text.specs.Front.{front, is_newline};
+    ghost use Rattle.command_text.specs.Holding.{most_in_memory};
     ghost use Rattle.command_text.specs.Text.{next};
     ghost use Rattle.command_text.specs.declared.item.Item.TheVariants.{Ended};
     ghost use Rattle.command_text.specs.Reading.{Reading, HasTextCause, Undecided, unread, ReadsNext, TakesForNext, LeftUndecided, Falls, settled};
@@ -107,7 +108,8 @@ impl CommandReader {
 
     /// Takes a piece of at most so many bytes. It answers whether there was one.
     fn take_piece<R: Source>(&mut self, source: &mut R, most: usize) -> Result<bool, TextFault>
-        requires { 0 < most }
+        requires some { 0 < most }
+        requires room { length self.old.held + most ≤ most_in_memory }
         ensures piece { TakesPiece self.old self.new (R.seen source.old) (R.seen source.new) }
         ensures some { result ≡ Ok true → length self.old.held < length self.new.held }
         ensures ended { result ≡ Ok false → (self.new ≡ self.old) × (0 < self.old.budget) × (IsTrue (R.seen source.old).is_told → (R.seen source.old).left ≡ []) }
@@ -120,6 +122,7 @@ impl CommandReader {
             return Err(TextFault::Budget);
         }
         let most = most.min(4_096).min(self.budget as usize);
+        self.held.move_up();
         let count = self.held.take_piece(source, most)?;
         self.budget -= count as u64;
         Ok(count > 0)
@@ -139,7 +142,6 @@ impl CommandReader {
                 LineEnd::TooLong => return Err(TextFault::BadStream),
                 LineEnd::Missing => {}
             }
-            self.held.move_up();
             if !self.take_piece(source, 4_096)? {
                 return self.at_input_end();
             }
@@ -159,6 +161,7 @@ impl CommandReader {
 
     /// Takes pieces until so many bytes are held.
     fn fill_to<R: Source>(&mut self, source: &mut R, count: usize) -> Result<(), TextFault>
+        requires { count ≤ most_in_memory }
         ensures fills { Fills (IsShorter count) self.old self.new (R.seen source.old) (R.seen source.new) }
         ensures full { OnOk result (count ≤ length self.new.held) }
         ensures short { OnErr result (length self.new.held < count) }

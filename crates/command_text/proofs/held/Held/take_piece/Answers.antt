@@ -1,5 +1,6 @@
 use Rattle.std.proofs.Common.{◌≡◌, ◌∙◌, ◌+◌, ◌-◌, ◌++◌, ◌≤◌, ℕ, List, drop, take, length, ap, replicate, length-drop, arith}
 use Rattle.std.specs.Prelude.{vec_len}
+use Rattle.command_text.specs.Holding.{Holding}
 use Rattle.command_text.proofs.HeldLemmas.{written_behind, old_front}
 use Rattle.command_text.proofs.held.Held.take_piece.Goals as goal
 
@@ -17,5 +18,5 @@ returns-in-Ok-clause-more g c =
     record {
       piece = take c.in-Ok.count c.take.new.into;
       takes = c.in-Ok.ensures.taken;
-      behind = ap (drop c.self.inside.at) (rw grown at cut) ∙ written_behind bytes c.take.new.into _ _ c.self.inside.at end c.in-Ok.count c.resize.new.self.len counted (omega arith) within (omega arith) ∙ ap (λ (l : List ℕ). l ++ take c.in-Ok.count c.take.new.into) c.self.view_is;
+      behind = ap (drop c.self.inside.at) (rw grown at cut) ∙ written_behind bytes c.take.new.into _ _ c.self.inside.at end c.in-Ok.count c.resize.new.self.len counted (omega arith) within (omega arith) ∙ ap (λ (h : Holding). h.bytes ++ take c.in-Ok.count c.take.new.into) c.self.view_is;
     }
