@@ -16,8 +16,8 @@ use Rattle.log_volume.specs.declared.answer.Answer.{Answer}
 use Rattle.command_text.specs.Text.{Text, Reads}
 use Rattle.command_text.specs.declared.item.Item.{Item}
 use Rattle.command_server.specs.Items.{Outcome, added_by}
-use Rattle.command_server.specs.Texts.{text_of, texts_of}
-use Rattle.command_server.specs.Session.{Run, all_added, Last, last_outcome, part_of, StandsForPrefix, MayBeLeft, Point, EndsBy, Leaves, Session}
+use Rattle.command_server.specs.Texts.{answered_text, answered_texts}
+use Rattle.command_server.specs.Session.{AllLegal, all_added, Last, last_outcome, part_of, StandsForPrefix, MayBeLeft, Point, EndsBy, Leaves, Session}
 use Rattle.command_server.specs.Session.Last.{Nothing, Cut, Stop}
 use Rattle.command_server.specs.declared.status.Status.{Status}
 use Rattle.command_server.specs.declared.status.Status.TheVariants.{Done, Usage, BadVolume, Device, SourceFailed, SinkFailed, NoMemory, BadStream, Budget}
@@ -30,16 +30,16 @@ reads_then : (text mid rest : Text) (cs ds : List Item) → Reads text cs mid �
 reads_then text mid rest [] ds one two = subst (λ (t : Text). Reads t ds rest) (sym one) two
 reads_then text mid rest (c ∷ cs) ds one two = (one.0, one.1, reads_then one.0 mid rest cs ds one.2 two)
 
-run_then : (room : ℕ) (names : Kept) (cs : List Item) (os : List Outcome) (ds : List Item) (ps : List Outcome) → Run room names cs os → Run room (after (all_added room names cs os) names) ds ps
-    → Run room names (cs ++ ds) (os ++ ps)
-run_then room names [] [] ds ps one two = two
-run_then room names (c ∷ cs) (o ∷ os) ds ps one two =
+legal_then : (room : ℕ) (names : Kept) (cs : List Item) (os : List Outcome) (ds : List Item) (ps : List Outcome) → AllLegal room names cs os → AllLegal room (after (all_added room names cs os) names) ds ps
+    → AllLegal room names (cs ++ ds) (os ++ ps)
+legal_then room names [] [] ds ps one two = two
+legal_then room names (c ∷ cs) (o ∷ os) ds ps one two =
     let mid = after (added_by room names c o) names in
-    (one.0, run_then room mid cs os ds ps one.1 (subst (λ (n : Kept). Run room n ds ps) (after_then (added_by room names c o) (all_added room mid cs os) names) two))
-run_then room names [] (o ∷ os) ds ps one two = absurd one
-run_then room names (c ∷ cs) [] ds ps one two = absurd one
+    (one.0, legal_then room mid cs os ds ps one.1 (subst (λ (n : Kept). AllLegal room n ds ps) (after_then (added_by room names c o) (all_added room mid cs os) names) two))
+legal_then room names [] (o ∷ os) ds ps one two = absurd one
+legal_then room names (c ∷ cs) [] ds ps one two = absurd one
 
-added_then : (room : ℕ) (names : Kept) (cs : List Item) (os : List Outcome) (ds : List Item) (ps : List Outcome) → Run room names cs os
+added_then : (room : ℕ) (names : Kept) (cs : List Item) (os : List Outcome) (ds : List Item) (ps : List Outcome) → AllLegal room names cs os
     → all_added room names (cs ++ ds) (os ++ ps) ≡ all_added room names cs os ++ all_added room (after (all_added room names cs os) names) ds ps
 added_then room names [] [] ds ps one = refl
 added_then room names (c ∷ cs) (o ∷ os) ds ps one =
@@ -109,8 +109,8 @@ module _ {room : ℕ} {tells : Bool} {old mid new : Point} {ended : Option Statu
   outcomes_one : whole ++ last_outcome one.last ≡ whole
   outcomes_one = ap (λ (l : Last). whole ++ last_outcome l) one.ends.0 ∙ append-nil whole
 
-  run_one : Run room old.kept one.items whole
-  run_one = subst (λ (os : List Outcome). Run room old.kept one.items os) outcomes_one one.legal
+  legal_one : AllLegal room old.kept one.items whole
+  legal_one = subst (λ (os : List Outcome). AllLegal room old.kept one.items os) outcomes_one one.legal
 
   kept_mid : mid.kept ≡ after added_one old.kept
   kept_mid = one.kept refl
@@ -119,10 +119,10 @@ module _ {room : ℕ} {tells : Bool} {old mid new : Point} {ended : Option Statu
   outcomes = outcomes_then one.answers two.answers (last_outcome two.last)
 
   acknowledged : all_added room old.kept (one.items ++ two.items) (map Ok (one.answers ++ two.answers)) ≡ added_one ++ all_added room (after added_one old.kept) two.items (map Ok two.answers)
-  acknowledged = ap (all_added room old.kept (one.items ++ two.items)) (map-append Ok one.answers two.answers) ∙ added_then room old.kept one.items whole two.items (map Ok two.answers) run_one
+  acknowledged = ap (all_added room old.kept (one.items ++ two.items)) (map-append Ok one.answers two.answers) ∙ added_then room old.kept one.items whole two.items (map Ok two.answers) legal_one
 
   accepted : all_added room old.kept (one.items ++ two.items) (map Ok (one.answers ++ two.answers) ++ last_outcome two.last) ≡ added_one ++ added_two
-  accepted = ap (all_added room old.kept (one.items ++ two.items)) outcomes ∙ added_then room old.kept one.items whole two.items outcomes_two run_one
+  accepted = ap (all_added room old.kept (one.items ++ two.items)) outcomes ∙ added_then room old.kept one.items whole two.items outcomes_two legal_one
 
   moments_one : IsTrue tells → Adds old.past mid.past (EachImage (MayBeLeft old.kept added_one old.state))
   moments_one is = subst (λ (os : List Outcome). Adds old.past mid.past (EachImage (MayBeLeft old.kept (all_added room old.kept one.items os) old.state))) outcomes_one (one.moments is)
@@ -133,11 +133,11 @@ module _ {room : ℕ} {tells : Bool} {old mid new : Point} {ended : Option Statu
       let left = subst (λ (l : Last). Leaves l old.kept (length added_one) (all_added room old.kept one.items (whole ++ last_outcome l)) mid.state) one.ends.0 (one.leaves is) in
       lower (subst (λ (os : List Outcome). StandsForPrefix old.kept (length (all_added room old.kept one.items os)) (all_added room old.kept one.items os) image) (append-nil whole) (left.1 image im)) (omega arith)
 
-  put_one : Puts old.sink mid.sink (texts_of one.answers)
-  put_one = subst (λ (l : List ℕ). Puts old.sink mid.sink l) (ap (λ (l : Last). texts_of one.answers ++ part_of l) one.ends.0 ∙ append-nil (texts_of one.answers)) one.put
+  put_one : Puts old.sink mid.sink (answered_texts one.answers)
+  put_one = subst (λ (l : List ℕ). Puts old.sink mid.sink l) (ap (λ (l : Last). answered_texts one.answers ++ part_of l) one.ends.0 ∙ append-nil (answered_texts one.answers)) one.put
 
-  texts_are : texts_of (one.answers ++ two.answers) ++ part_of two.last ≡ texts_of one.answers ++ (texts_of two.answers ++ part_of two.last)
-  texts_are = ap (λ (l : List ℕ). l ++ part_of two.last) (flat_map-append text_of one.answers two.answers) ∙ append_assoc (texts_of one.answers) (texts_of two.answers) (part_of two.last)
+  texts_are : answered_texts (one.answers ++ two.answers) ++ part_of two.last ≡ answered_texts one.answers ++ (answered_texts two.answers ++ part_of two.last)
+  texts_are = ap (λ (l : List ℕ). l ++ part_of two.last) (flat_map-append answered_text one.answers two.answers) ∙ append_assoc (answered_texts one.answers) (answered_texts two.answers) (part_of two.last)
 
   pub session_then : Session room tells old new ended
   session_then = record {
@@ -147,8 +147,8 @@ module _ {room : ℕ} {tells : Bool} {old mid new : Point} {ended : Option Statu
     rest = two.rest;
     told = λ t. two.told (one.told t);
     read = λ t. reads_then old.text mid.text two.rest one.items two.items (subst (λ (x : Text). Reads old.text one.items x) (one.ends.1 t) (one.read t)) (two.read (one.told t));
-    legal = subst (λ (os : List Outcome). Run room old.kept (one.items ++ two.items) os) (sym outcomes)
-        (run_then room old.kept one.items whole two.items outcomes_two run_one (subst (λ (n : Kept). Run room n two.items outcomes_two) kept_mid two.legal));
+    legal = subst (λ (os : List Outcome). AllLegal room old.kept (one.items ++ two.items) os) (sym outcomes)
+        (legal_then room old.kept one.items whole two.items outcomes_two legal_one (subst (λ (n : Kept). AllLegal room n two.items outcomes_two) kept_mid two.legal));
     put = subst (λ (l : List ℕ). Puts old.sink new.sink l) (sym texts_are) (puts_both put_one two.put);
     ends = ends_told ended (IsTrue old.source.is_told) (IsTrue mid.source.is_told) new two.rest two.last one.told two.ends;
     kept = λ none. two.kept none ∙ ap (λ (n : Kept). after (all_added room n two.items (map Ok two.answers)) n) kept_mid ∙ sym (after_then added_one _ old.kept)

@@ -8,7 +8,7 @@ use Rattle.log_volume.specs.Replay.{Kept, after}
 use Rattle.log_volume.proofs.ImageLaws.{one_meaning}
 use Rattle.command_text.specs.declared.item.Item.{Item}
 use Rattle.command_server.specs.Items.{Outcome, added_by}
-use Rattle.command_server.specs.Session.{Run, all_added, Last, last_outcome, Leaves, StandsForPrefix}
+use Rattle.command_server.specs.Session.{AllLegal, all_added, Last, last_outcome, Leaves, StandsForPrefix}
 use Rattle.command_server.specs.Session.Last.{Nothing, Cut, Stop}
 use Rattle.command_server.specs.Staying.{KeepsAcknowledged, AcknowledgedStay}
 
@@ -28,15 +28,15 @@ kept_of (Cut answer count) start kept acknowledged accepted s image le left is s
 kept_of (Stop stopped) start kept acknowledged accepted s image le left is stands = kept_prefix start kept acknowledged accepted (length acknowledged) image (omega arith) (left.1 image is) stands
 
 -- no fewer are accepted than acknowledged
-at_least_acknowledged : (room : ℕ) (start : Kept) (items : List Item) (one two : List Outcome) → Run room start items (one ++ two) → length (all_added room start items one) ≤ length (all_added room start items (one ++ two))
-at_least_acknowledged room start [] one two run = omega arith
-at_least_acknowledged room start (i ∷ items) [] two run = omega arith
-at_least_acknowledged room start (i ∷ items) (o ∷ one) two run =
+at_least_acknowledged : (room : ℕ) (start : Kept) (items : List Item) (one two : List Outcome) → AllLegal room start items (one ++ two) → length (all_added room start items one) ≤ length (all_added room start items (one ++ two))
+at_least_acknowledged room start [] one two legal = omega arith
+at_least_acknowledged room start (i ∷ items) [] two legal = omega arith
+at_least_acknowledged room start (i ∷ items) (o ∷ one) two legal =
     omega (
       arith,
       length-append (added_by room start i o) (all_added room (after (added_by room start i o) start) items one),
       length-append (added_by room start i o) (all_added room (after (added_by room start i o) start) items (one ++ two)),
-      at_least_acknowledged room (after (added_by room start i o) start) items one two run.1,
+      at_least_acknowledged room (after (added_by room start i o) start) items one two legal.1,
     )
 
 pub acknowledged_stay : AcknowledgedStay

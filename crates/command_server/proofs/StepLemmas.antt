@@ -26,7 +26,7 @@ use Rattle.command_server.specs.Answering.{status_of, Says}
 use Rattle.command_server.specs.Faults.{device_faults, source_faults, sink_faults, faults_then}
 use Rattle.command_server.specs.Items.{IsLegal, added_by}
 use Rattle.command_server.specs.Serving.{ended_by, left_by, no_text}
-use Rattle.command_server.specs.Texts.{text_of}
+use Rattle.command_server.specs.Texts.{answered_text}
 use Rattle.command_server.specs.Session.{StandsForPrefix, MayBeLeft, HoldsNoItem, EndsBy, Session, point}
 use Rattle.command_server.specs.Session.Last.{Nothing, Cut, Stop}
 use Rattle.command_server.specs.declared.serving.Served.{Served}
@@ -111,7 +111,7 @@ module _ {room : ℕ} {tells : Bool} {text behind : Text} {source source' : Inpu
   module _ (answer : Answer) (volume' : Volume) (legal : IsLegal room start given (Ok answer)) (kept_is : kept_by volume' ≡ after (added_by room start given (Ok answer)) start)
       (fits : IsTrue tells → Fits volume' state') (during : IsTrue tells → Adds past past' (EachImage (StandsForSome start (added_by room start given (Ok answer))))) {sink sink' : Output} where
     -- its text was put
-    pub answered : Puts sink sink' (text_of answer) → Session room tells (point text source sink start state past) (point behind source' sink' (kept_by volume') state' past') None
+    pub answered : Puts sink sink' (answered_text answer) → Session room tells (point text source sink start state past) (point behind source' sink' (kept_by volume') state' past') None
     answered put = record {
       items = given ∷ [];
       answers = answer ∷ [];
@@ -120,7 +120,7 @@ module _ {room : ℕ} {tells : Bool} {text behind : Text} {source source' : Inpu
       told = told;
       read = λ is. (behind, read is, refl);
       legal = (legal, tt);
-      put = subst (λ (l : List ℕ). Puts sink sink' l) (sym (append-nil (text_of answer ++ []) ∙ append-nil (text_of answer))) put;
+      put = subst (λ (l : List ℕ). Puts sink sink' l) (sym (append-nil (answered_text answer ++ []) ∙ append-nil (answered_text answer))) put;
       ends = (refl, λ is. refl);
       kept = λ none. kept_after start (kept_by volume') (added_by room start given (Ok answer)) kept_is;
       moments = λ is. moments_of (added_by room start given (Ok answer)) (during is);
@@ -128,7 +128,7 @@ module _ {room : ℕ} {tells : Bool} {text behind : Text} {source source' : Inpu
     }
 
     -- so many bytes of it were put
-    pub cut_off : {status : Status} {last : Text} (count : ℕ) → Puts sink sink' (take count (text_of answer))
+    pub cut_off : {status : Status} {last : Text} (count : ℕ) → Puts sink sink' (take count (answered_text answer))
         → EndsBy (Some status) (IsTrue source.is_told) (point last source' sink' (kept_by volume') state' past') behind (Cut answer count)
         → Session room tells (point text source sink start state past) (point last source' sink' (kept_by volume') state' past') (Some status)
     cut_off count put ends = record {
@@ -147,7 +147,7 @@ module _ {room : ℕ} {tells : Bool} {text behind : Text} {source source' : Inpu
     }
 
     -- by what was put of it
-    pub said : (served : Served) → Says (text_of answer) served sink sink' → Session room tells (point text source sink start state past) (point (left_by served behind) source' sink' (kept_by volume') state' past') (ended_by served)
+    pub said : (served : Served) → Says (answered_text answer) served sink sink' → Session room tells (point text source sink start state past) (point (left_by served behind) source' sink' (kept_by volume') state' past') (ended_by served)
     said GoesOn says = answered says
     said (Ends status.SinkFailed) says = cut_off says.count says.puts (answer, says.count, refl)
     said (Ends status.NoMemory) says = cut_off 0 (subst (λ (o : Output). Puts sink o []) (sym says) (puts_none sink)) (inr (answer, refl))
@@ -159,31 +159,6 @@ module _ {room : ℕ} {tells : Bool} {text behind : Text} {source source' : Inpu
     said (Ends status.BadStream) says = absurd says
     said (Ends status.Budget) says = absurd says
 
--- what is put doesn't fail the device or the source
-pub said_device : (text : List ℕ) (served : Served) (sink sink' : Output) (count : ℕ) → Says text served sink sink' → faults_then device_faults (ended_by served) count ≡ count
-said_device text GoesOn sink sink' count says = refl
-said_device text (Ends status.SinkFailed) sink sink' count says = refl
-said_device text (Ends status.NoMemory) sink sink' count says = refl
-said_device text (Ends status.Done) sink sink' count says = absurd says
-said_device text (Ends status.Usage) sink sink' count says = absurd says
-said_device text (Ends status.BadVolume) sink sink' count says = absurd says
-said_device text (Ends status.Device) sink sink' count says = absurd says
-said_device text (Ends status.SourceFailed) sink sink' count says = absurd says
-said_device text (Ends status.BadStream) sink sink' count says = absurd says
-said_device text (Ends status.Budget) sink sink' count says = absurd says
-
-pub said_source : (text : List ℕ) (served : Served) (sink sink' : Output) (count : ℕ) → Says text served sink sink' → faults_then source_faults (ended_by served) count ≡ count
-said_source text GoesOn sink sink' count says = refl
-said_source text (Ends status.SinkFailed) sink sink' count says = refl
-said_source text (Ends status.NoMemory) sink sink' count says = refl
-said_source text (Ends status.Done) sink sink' count says = absurd says
-said_source text (Ends status.Usage) sink sink' count says = absurd says
-said_source text (Ends status.BadVolume) sink sink' count says = absurd says
-said_source text (Ends status.Device) sink sink' count says = absurd says
-said_source text (Ends status.SourceFailed) sink sink' count says = absurd says
-said_source text (Ends status.BadStream) sink sink' count says = absurd says
-said_source text (Ends status.Budget) sink sink' count says = absurd says
-
 -- how a session ends whose next item can't be read
 pub unread_ends : (told : Type 0) (fault : TextFault) (text behind : Text) (source' : Input) (sink : Output) (kept : Kept) (state : State) (past : Past) → (told → ReadsNext (next text) behind (Err fault)) → (told → fault ≡ Source → HoldsNoItem text source')
     → EndsBy (Some (status_of fault)) told (point no_text source' sink kept state past) text Nothing
@@ -191,25 +166,6 @@ unread_ends told Source text behind source' sink kept state past reads undecided
 unread_ends told BadStream text behind source' sink kept state past reads undecided = (refl, reads)
 unread_ends told Budget text behind source' sink kept state past reads undecided = (refl, reads)
 unread_ends told OutOfMemory text behind source' sink kept state past reads undecided = inl refl
-
--- the counts where the next item can't be read
-pub unread_source : (fault : TextFault) (old new : ℕ) → HasTextCause {T = Item} old new (Err fault) → new ≡ source_faults (status_of fault) old
-unread_source Source old new cause = cause
-unread_source BadStream old new cause = cause
-unread_source Budget old new cause = cause
-unread_source OutOfMemory old new cause = cause
-
-pub unread_device : (fault : TextFault) (count : ℕ) → device_faults (status_of fault) count ≡ count
-unread_device Source count = refl
-unread_device BadStream count = refl
-unread_device Budget count = refl
-unread_device OutOfMemory count = refl
-
-pub unread_sink : (fault : TextFault) (count : ℕ) → sink_faults (status_of fault) count ≡ count
-unread_sink Source count = refl
-unread_sink BadStream count = refl
-unread_sink Budget count = refl
-unread_sink OutOfMemory count = refl
 
 -- a sound volume stops only now
 pub stops_now : (P : Result Answer Stopped → Type 0) (r : Result Answer Stopped) → (r ≡ Err Now → P r) → (r ≡ Err Before → ⊥) → OnErr r (P r)

@@ -1,5 +1,5 @@
--- How often the media, the source and the sink have failed after a run, by its status. A call that fails ends the run, so there is one fault
--- more, or none.
+-- How often the media, the source and the sink have failed after a call of the program, by its status. The first call of theirs that
+-- fails ends it, so there is one fault more, or none.
 use Rattle.std.specs.Prelude.{ℕ, Option, Some, None}
 use Rattle.vol_numbers.specs.Cause.{raised}
 use Rattle.command_server.specs.declared.status.Status.{Status}

@@ -8,6 +8,5 @@ pub mod Serving
 pub mod Session
 pub mod Status
 pub mod Staying
-pub mod Text
 pub mod Texts
 pub mod Words

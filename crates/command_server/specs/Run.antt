@@ -1,4 +1,4 @@
--- What a run does, by what the words ask for and by its status.
+-- What a call of the program does, by what the words ask for and by its status.
 use Rattle.std.specs.Prelude.{◌≡◌, ◌≢◌, ◌⊎◌, ◌-◌, ℕ, List, length, Option, None, Some}
 use Rattle.vol_numbers.specs.Layout.{area_size}
 use Rattle.disk_model.specs.Disk.{State}

@@ -1,7 +1,9 @@
 -- What a session reads, and what one item is in the code.
-use Rattle.std.specs.Prelude.{ℕ, true, false, [], Option, Some, None}
+use Rattle.std.specs.Prelude.{ℕ, true, false, [], Option, Some, None, Ok, IsTrue}
 use Rattle.wire_ends.specs.Ends.{Input}
-use Rattle.command_text.specs.Text.{Text}
+use Rattle.command_text.specs.Reading.{ReadsNext}
+use Rattle.command_text.specs.Text.{Text, next}
+use Rattle.command_text.specs.declared.item.Item.{Item}
 use Rattle.command_server.specs.declared.serving.Served.{Served}
 use Rattle.command_server.specs.declared.serving.Served.TheVariants.{GoesOn, Ends}
 use Rattle.command_server.specs.declared.status.Status.{Status}
@@ -27,3 +29,8 @@ ended_by (Ends status) = Some status
 abbrev pub left_by : Served → Text → Text
 left_by GoesOn text = text
 left_by (Ends status) text = no_text
+
+-- the item comes next in a text, with this text and this source behind it
+pub record IsRead (item : Item) (text behind : Text) (from to : Input) : Type 0 where
+  pub told : IsTrue from.is_told → IsTrue to.is_told
+  pub comes : IsTrue from.is_told → ReadsNext (next text) behind (Ok item)

@@ -15,16 +15,16 @@ use Rattle.command_text.specs.Text.{Text, next, Reads}
 use Rattle.command_text.specs.Text.Next.{Ended, Bad, Spent}
 use Rattle.command_text.specs.declared.item.Item.{Item}
 use Rattle.command_server.specs.Items.{Outcome, IsLegal, added_by}
-use Rattle.command_server.specs.Texts.{text_of, texts_of}
+use Rattle.command_server.specs.Texts.{answered_text, answered_texts}
 use Rattle.command_server.specs.declared.status.Status.{Status}
 use Rattle.command_server.specs.declared.status.Status.TheVariants.{Done, Usage, BadVolume, Device, SourceFailed, SinkFailed, NoMemory, BadStream, Budget}
 
 -- each item has an outcome that is legal in its state
-abbrev pub Run : ℕ → Kept → List Item → List Outcome → Type 0
-Run room kept [] [] = Unit {0}
-Run room kept (item ∷ items) (outcome ∷ outcomes) = IsLegal room kept item outcome × Run room (after (added_by room kept item outcome) kept) items outcomes
-Run room kept [] (outcome ∷ outcomes) = ⊥
-Run room kept (item ∷ items) [] = ⊥
+abbrev pub AllLegal : ℕ → Kept → List Item → List Outcome → Type 0
+AllLegal room kept [] [] = Unit {0}
+AllLegal room kept (item ∷ items) (outcome ∷ outcomes) = IsLegal room kept item outcome × AllLegal room (after (added_by room kept item outcome) kept) items outcomes
+AllLegal room kept [] (outcome ∷ outcomes) = ⊥
+AllLegal room kept (item ∷ items) [] = ⊥
 
 -- the commands that these items add to the log, in order: those that were accepted
 abbrev pub all_added : ℕ → Kept → List Item → List Outcome → List Command
@@ -45,7 +45,7 @@ last_outcome (Stop stopped) = Err stopped ∷ []
 
 abbrev pub part_of : Last → List ℕ
 part_of Nothing = []
-part_of (Cut answer count) = take count (text_of answer)
+part_of (Cut answer count) = take count (answered_text answer)
 part_of (Stop stopped) = []
 
 abbrev pub IsCut : Last → Type 0
@@ -114,8 +114,8 @@ pub record Session (room : ℕ) (tells : Bool) (old new : Point) (ended : Option
   pub rest : Text
   pub told : IsTrue old.source.is_told → IsTrue new.source.is_told
   pub read : IsTrue old.source.is_told → Reads old.text items rest
-  pub legal : Run room old.kept items (map Ok answers ++ last_outcome last)
-  pub put : Puts old.sink new.sink (texts_of answers ++ part_of last)
+  pub legal : AllLegal room old.kept items (map Ok answers ++ last_outcome last)
+  pub put : Puts old.sink new.sink (answered_texts answers ++ part_of last)
   pub ends : EndsBy ended (IsTrue old.source.is_told) new rest last
   pub kept : IsNone ended → new.kept ≡ after (all_added room old.kept items (map Ok answers)) old.kept
   -- at each moment, and in the end

@@ -7,11 +7,11 @@ use Rattle.log_volume.specs.Image.{Stands}
 use Rattle.log_volume.specs.Replay.{Kept, after}
 use Rattle.log_volume.specs.declared.answer.Answer.{Answer}
 use Rattle.command_text.specs.declared.item.Item.{Item}
-use Rattle.command_server.specs.Session.{Run, Last, Leaves, all_added, last_outcome}
+use Rattle.command_server.specs.Session.{AllLegal, Last, Leaves, all_added, last_outcome}
 
 -- How a session stands at its end, by the names of its record: its answers are legal, and this is what it leaves on its disk.
 pub record HasEnded (room : ℕ) (start : Kept) (items : List Item) (answers : List Answer) (last : Last) (state : State) : Type 0 where
-  pub legal : Run room start items (map Ok answers ++ last_outcome last)
+  pub legal : AllLegal room start items (map Ok answers ++ last_outcome last)
   pub leaves : Leaves last start (length (all_added room start items (map Ok answers))) (all_added room start items (map Ok answers ++ last_outcome last)) state
 
 -- the tree is that after the first of the accepted commands, among them all that were acknowledged

@@ -1,4 +1,4 @@
--- What a run writes.
+-- What is written.
 use Rattle.std.specs.Prelude.{ℕ, List, ◌++◌, codes, decimal}
 use Rattle.std.specs.List.{flat_map}
 use Rattle.command_text.specs.Replies.{reply_text}
@@ -27,9 +27,9 @@ finding_text Unbuilt = codes "bad Unbuilt\n"
 finding_text (BadLog index) = bad_log_text index
 
 -- the text of an answer
-abbrev pub text_of : Answer → List ℕ
-text_of (Reply reply) = reply_text reply
-text_of LogFull = codes "refused 16 LogFull\n"
+abbrev pub answered_text : Answer → List ℕ
+answered_text (Reply reply) = reply_text reply
+answered_text LogFull = codes "refused 16 LogFull\n"
 
-abbrev pub texts_of : List Answer → List ℕ
-texts_of answers = flat_map text_of answers
+abbrev pub answered_texts : List Answer → List ℕ
+answered_texts answers = flat_map answered_text answers

@@ -1,9 +1,14 @@
 -- What the words of a call ask for.
-use Rattle.std.specs.Prelude.{ℕ, ◌^◌, ◌==◌, ◌&&◌, not, nat_lt, nat_le, if◌then◌else◌, Bool, List, [], ◌∷◌, length, codes, bytes_eq, slice_index, Option, Some, None, is_none, unwrap_or, option_and_then}
+use Rattle.std.specs.Prelude.{ℕ, ◌^◌, ◌==◌, ◌&&◌, not, nat_lt, nat_le, if◌then◌else◌, Bool, List, [], ◌∷◌, length, map, codes, bytes_eq, slice_index, Option, Some, None, is_none, unwrap_or, option_and_then}
+use Rattle.std.specs.Borrow.{Bor}
 use Rattle.std.specs.Option.{option_map}
 use Rattle.vol_numbers.specs.Layout.{Layout, area_size}
 use Rattle.command_text.specs.Numbers.{number_in}
 use Rattle.command_server.specs.declared.words.FormatOptions.{FormatOptions}
+
+-- the bytes of each word
+abbrev pub bytes_of_words : List (Bor (List ℕ)) → List (List ℕ)
+bytes_of_words words = map (λ word. word.now) words
 
 -- to make a volume of this layout in the image of this name
 pub data Request : Type 0 where
@@ -44,8 +49,8 @@ abbrev pub is_layout : Layout → Bool
 is_layout g = nat_le g.blocks 65536 && nat_le 64 g.log_blocks && nat_le g.log_blocks 4096 && nat_le 64 (area_size g)
 
 -- a word that may name an image: it has a byte, and doesn't begin as an option does
-abbrev pub is_plain : List ℕ → Bool
-is_plain word = nat_lt 0 (length word) && not (slice_index word 0 == 45)
+abbrev pub is_image_name : List ℕ → Bool
+is_image_name word = nat_lt 0 (length word) && not (slice_index word 0 == 45)
 
 abbrev pub format_of : List ℕ → FormatOptions → Option Request
 format_of image o = if is_layout (layout_in o) then Some (Format image (layout_in o)) else None
@@ -64,5 +69,5 @@ action_of action image options =
 
 -- what the words ask for, if they are in the table of actions: `format IMAGE [--blocks N] [--log N]` or `serve IMAGE`
 abbrev pub request_of : List (List ℕ) → Option Request
-request_of (action ∷ image ∷ options) = if is_plain image then action_of action image options else None
+request_of (action ∷ image ∷ options) = if is_image_name image then action_of action image options else None
 request_of words = None

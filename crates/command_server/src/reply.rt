@@ -1,9 +1,9 @@
-//! The lines that a run writes.
+//! The lines that are written.
 ghost use Rattle.std.specs.Prelude.{codes};
 ghost use Rattle.vol_numbers.specs.Cause.{HasCause};
 ghost use Rattle.command_text.specs.Putting.{PutsText, PutsAnswer, HasPutCause};
 ghost use Rattle.command_text.specs.Replies.{reply_text};
-ghost use Rattle.command_server.specs.Texts.{usage_text, formatted_text, finding_text, bad_log_text, text_of};
+ghost use Rattle.command_server.specs.Texts.{usage_text, formatted_text, finding_text, bad_log_text, answered_text};
 
 use arrayvec::ArrayString;
 use command_text::{PutFault, write_reply};
@@ -69,7 +69,7 @@ pub(crate) fn put_answer<W: Sink>(
     sink: &mut W,
     answer: Answer,
 ) -> Result<(), PutFault>
-    ensures text { PutsAnswer (W.seen sink.old) (W.seen sink.new) (text_of answer) result }
+    ensures text { PutsAnswer (W.seen sink.old) (W.seen sink.new) (answered_text answer) result }
     ensures cause { HasPutCause (W.seen sink.old).faults (W.seen sink.new).faults result }
 {
     match answer {

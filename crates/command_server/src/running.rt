@@ -4,8 +4,7 @@ ghost use Rattle.vol_numbers.specs.Geometry.{layout_of};
 ghost use Rattle.vol_numbers.specs.Layout.{area_size};
 ghost use Rattle.disk_model.specs.Past.{Adds};
 ghost use Rattle.command_server.specs.Faults.{device_faults, source_faults, sink_faults};
-ghost use Rattle.command_server.specs.Words.{request_of, Format};
-ghost use Rattle.command_server.specs.Text.{texts};
+ghost use Rattle.command_server.specs.Words.{bytes_of_words, request_of, Format};
 ghost use Rattle.command_server.specs.Texts.{usage_text, formatted_text};
 ghost use Rattle.command_server.specs.Run.{PutsBy, PutsFor, IsServe, IfServe, IsActionDone, IsMade, KeepsOthers, IsDuring};
 ghost use Rattle.command_server.specs.Serves.{Serves, ends_of};
@@ -31,29 +30,29 @@ pub fn run<M: Media, R: Source, W: Sink>(
     sink: &mut W,
 ) -> Status
     // Usage exactly where the words are outside the table, but that a failure of the sink comes in its place.
-    ensures usage { result ≡ Usage → request_of (texts words.now) ≡ None }
-    ensures usage_always { request_of (texts words.now) ≡ None → (result ≡ Usage) ⊎ (result ≡ SinkFailed) }
-    // A call of the media, the source or the sink that fails ends the run, with the status that tells of it. Want of memory alone is free.
+    ensures usage { result ≡ Usage → request_of (bytes_of_words words.now) ≡ None }
+    ensures usage_always { request_of (bytes_of_words words.now) ≡ None → (result ≡ Usage) ⊎ (result ≡ SinkFailed) }
+    // A call of the media, the source or the sink that fails ends all, with the status that tells of it. Want of memory alone is free.
     ensures device_faults { M.faults media.new ≡ device_faults result (M.faults media.old) }
     ensures source_faults { (R.seen source.new).faults ≡ source_faults result (R.seen source.old).faults }
     ensures sink_faults { (W.seen sink.new).faults ≡ sink_faults result (W.seen sink.old).faults }
 
     // What is written, and what is made.
-    ensures put { PutsFor (request_of (texts words.now)) result (W.seen sink.old) (W.seen sink.new) }
-    ensures made { IsActionDone result → IsTrue M.tells → IfSome (request_of (texts words.now)) (λ request. IsMade request (M.fixed media.new) (M.state media.new)) }
-    ensures moments { IsTrue M.tells → IfSome (request_of (texts words.now)) (λ request. Adds (M.past media.old) (M.past media.new) (IsDuring request (M.state media.new))) }
+    ensures put { PutsFor (request_of (bytes_of_words words.now)) result (W.seen sink.old) (W.seen sink.new) }
+    ensures made { IsActionDone result → IsTrue M.tells → IfSome (request_of (bytes_of_words words.now)) (λ request. IsMade request (M.fixed media.new) (M.state media.new)) }
+    ensures moments { IsTrue M.tells → IfSome (request_of (bytes_of_words words.now)) (λ request. Adds (M.past media.old) (M.past media.new) (IsDuring request (M.state media.new))) }
 
     // A session.
-    ensures served { IfServe (request_of (texts words.now)) (λ image. Serves M.tells image
+    ensures served { IfServe (request_of (bytes_of_words words.now)) (λ image. Serves M.tells image
         (ends_of (R.seen source.old) (W.seen sink.old) (M.fixed media.old) (M.state media.old) (M.past media.old))
         (ends_of (R.seen source.new) (W.seen sink.new) (M.fixed media.new) (M.state media.new) (M.past media.new))
         result) }
 
     // What stays.
-    ensures others { IsTrue M.tells → IfSome (request_of (texts words.now)) (λ request.
+    ensures others { IsTrue M.tells → IfSome (request_of (bytes_of_words words.now)) (λ request.
         KeepsOthers request (M.fixed media.old) (M.state media.old) (M.fixed media.new) (M.state media.new)) }
-    ensures untouched { request_of (texts words.now) ≡ None → media.new ≡ media.old }
-    ensures source { ¬ IsServe (request_of (texts words.now)) → source.new ≡ source.old }
+    ensures untouched { request_of (bytes_of_words words.now) ≡ None → media.new ≡ media.old }
+    ensures source { ¬ IsServe (request_of (bytes_of_words words.now)) → source.new ≡ source.old }
 {
     match read_words(words) {
         Some(Request::Format { image, geometry }) => format_image(image, &geometry, media, sink),

@@ -1,18 +1,20 @@
 //! A session over a volume: item after item is read and answered.
-ghost use Rattle.std.specs.Prelude.{◌≡◌, ◌≢◌, ◌↔◌, ◌<◌, ◌+◌, [], length, false, None, Some, OnOk, OnErr, IsNone, IsTrue};
+ghost use Rattle.std.specs.Prelude.{◌≡◌, ◌≢◌, ◌↔◌, ◌<◌, ◌+◌, ℕ, [], length, false, None, Some, OnOk, OnErr, IsNone, IsTrue};
 ghost use Rattle.vol_numbers.specs.Cause.{HasCause};
 ghost use Rattle.disk_model.specs.Disk.{EachImage};
 ghost use Rattle.disk_model.specs.Past.{Adds};
+ghost use Rattle.wire_ends.specs.Ends.{Input};
 ghost use Rattle.log_volume.specs.Fits.{Fits, StandsForSome, kept_by};
 ghost use Rattle.log_volume.specs.Replay.{after};
 ghost use Rattle.command_text.specs.Reading.{unread};
+ghost use Rattle.command_text.specs.Text.{Text};
 ghost use Rattle.command_text.specs.declared.item.Item.TheVariants.{Ended};
 ghost use Rattle.command_server.specs.Answering.{status_of, Says};
 ghost use Rattle.command_server.specs.Faults.{device_faults, source_faults, sink_faults, faults_then};
 ghost use Rattle.command_server.specs.Items.{IsLegal, added_by};
-ghost use Rattle.command_server.specs.Serving.{ended_by, left_by, text_of_source, no_text};
+ghost use Rattle.command_server.specs.Serving.{ended_by, left_by, text_of_source, no_text, IsRead};
 ghost use Rattle.command_server.specs.Session.{Session, point};
-ghost use Rattle.command_server.specs.Texts.{text_of};
+ghost use Rattle.command_server.specs.Texts.{answered_text};
 
 use crate::Status;
 use crate::reply::put_answer;
@@ -91,14 +93,44 @@ fn serve_item<D: Disk, R: Source, W: Sink>(
     ensures sink_faults { (W.seen sink.new).faults ≡ faults_then sink_faults (ended_by result) (W.seen sink.old).faults }
     ensures fixed { D.fixed disk.new ≡ D.fixed disk.old }
 {
-    let item = match reader.read_command(source) {
-        Ok(item) => item,
-        Err(fault) => return Served::Ends(status_of(fault)),
-    };
-    if is_ended(&item) {
+    match reader.read_command(source) {
+        Ok(item) => {
+            let served = answer_item(alloc, volume, disk, sink, &item);
+            drop(item);
+            served
+        }
+        Err(fault) => Served::Ends(status_of(fault)),
+    }
+}
+
+/// Answers an item that was read from some source.
+fn answer_item<D: Disk, W: Sink>(
+    alloc: Global,
+    volume: &mut LogVolume,
+    disk: &mut D,
+    sink: &mut W,
+    item: &Item,
+) -> Served
+    requires sound { volume.old.is_failed ≡ false }
+    requires size { volume.old.root.layout.blocks ≡ (D.fixed disk.old).size }
+    requires fits { IsTrue D.tells → Fits volume.old (D.state disk.old) }
+    ensures session { (text behind : Text) → (from to : Input) → IsRead item.now text behind from to → Session volume.old.root.layout.log_blocks D.tells
+        (point text from (W.seen sink.old) (kept_by volume.old) (D.state disk.old) (D.past disk.old))
+        (point (left_by result behind) to (W.seen sink.new) (kept_by volume.new) (D.state disk.new) (D.past disk.new))
+        (ended_by result) }
+    ensures goes_on { IsNone (ended_by result) → item.now ≢ Ended }
+    ensures layout { volume.new.root.layout ≡ volume.old.root.layout }
+    ensures sound { IsNone (ended_by result) → volume.new.is_failed ≡ false }
+    ensures fits { IsNone (ended_by result) → IsTrue D.tells → Fits volume.new (D.state disk.new) }
+    ensures device_faults { D.faults disk.new ≡ faults_then device_faults (ended_by result) (D.faults disk.old) }
+    ensures no_source_fault { (count : ℕ) → faults_then source_faults (ended_by result) count ≡ count }
+    ensures sink_faults { (W.seen sink.new).faults ≡ faults_then sink_faults (ended_by result) (W.seen sink.old).faults }
+    ensures fixed { D.fixed disk.new ≡ D.fixed disk.old }
+{
+    if is_ended(item) {
         return Served::Ends(Status::Done);
     }
-    match answer_to(volume, disk, &item) {
+    match answer_to(volume, disk, item) {
         Ok(answer) => say(alloc, sink, answer),
         Err(_) => Served::Ends(Status::Device),
     }
@@ -154,7 +186,7 @@ fn answer_to<D: Disk>(volume: &mut LogVolume, disk: &mut D, item: &Item) -> Resu
 
 /// Puts an answer.
 fn say<W: Sink>(alloc: Global, sink: &mut W, answer: Answer) -> Served
-    ensures says { Says (text_of answer) result (W.seen sink.old) (W.seen sink.new) }
+    ensures says { Says (answered_text answer) result (W.seen sink.old) (W.seen sink.new) }
     ensures sink_faults { (W.seen sink.new).faults ≡ faults_then sink_faults (ended_by result) (W.seen sink.old).faults }
 {
     match put_answer(alloc, sink, answer) {

@@ -1,8 +1,8 @@
-//! How a run of the program ends.
+//! How a call of the program ends.
 ghost use Rattle.std.specs.Prelude.{◌≡◌};
 ghost use Rattle.command_server.specs.Status.{number_of};
 
-/// How a run ends. Its number is the exit status of the program.
+/// How a call of the program ends. Its number is the exit status of the program.
 #[derive(Clone, Copy, Debug, PartialEq, Eq)]
 pub enum Status {
     /// The action is done.

@@ -1,9 +1,8 @@
 //! What the words of a call ask for, read by hand: the action, the image, and then pairs of an option and its value.
 ghost use Rattle.std.specs.Prelude.{◌≡◌, ◌∷◌, map, Some, None, option_and_then, true, false, MatchOption};
-ghost use Rattle.command_server.specs.Words.{no_options, request_of, format_of, serve_of, with_options, with_option, value_in, layout_in, is_layout, is_plain};
+ghost use Rattle.command_server.specs.Words.{bytes_of_words, no_options, request_of, format_of, serve_of, with_options, with_option, value_in, layout_in, is_layout, is_image_name};
 ghost use Rattle.vol_numbers.specs.Geometry.{layout_of};
 ghost use Rattle.command_server.specs.Asked.{asked};
-ghost use Rattle.command_server.specs.Text.{texts};
 
 use command_text::read_number;
 use vol_numbers::Geometry;
@@ -26,7 +25,7 @@ pub(crate) enum Request<'a> {
 
 /// What the words ask for, if they are in the table of actions.
 pub(crate) fn read_words<'a>(words: &[&'a str]) -> Option<Request<'a>>
-    ensures { MatchOption result (request_of (texts words.now) ≡ None) (λ request. request_of (texts words.now) ≡ Some (asked request)) }
+    ensures { MatchOption result (request_of (bytes_of_words words.now) ≡ None) (λ request. request_of (bytes_of_words words.now) ≡ Some (asked request)) }
 {
     match words {
         [action, image, options @ ..] => read_action(action, image, options),
@@ -35,10 +34,10 @@ pub(crate) fn read_words<'a>(words: &[&'a str]) -> Option<Request<'a>>
 }
 
 fn read_action<'a>(action: &str, image: &'a str, options: &[&str]) -> Option<Request<'a>>
-    ensures { let request = request_of (action.now ∷ image.now ∷ texts options.now) in
+    ensures { let request = request_of (action.now ∷ image.now ∷ bytes_of_words options.now) in
         MatchOption result (request ≡ None) (λ read. request ≡ Some (asked read)) }
 {
-    if !is_plain(image) {
+    if !is_image_name(image) {
         return None;
     }
     match action {
@@ -50,7 +49,7 @@ fn read_action<'a>(action: &str, image: &'a str, options: &[&str]) -> Option<Req
 
 /// A session takes no options.
 fn read_serve<'a>(image: &'a str, options: &[&str]) -> Option<Request<'a>>
-    ensures { let request = serve_of image.now (texts options.now) in
+    ensures { let request = serve_of image.now (bytes_of_words options.now) in
         MatchOption result (request ≡ None) (λ read. request ≡ Some (asked read)) }
 {
     match options {
@@ -60,7 +59,7 @@ fn read_serve<'a>(image: &'a str, options: &[&str]) -> Option<Request<'a>>
 }
 
 fn read_format<'a>(image: &'a str, options: &[&str]) -> Option<Request<'a>>
-    ensures { let request = option_and_then (format_of image.now) (with_options no_options (texts options.now)) in
+    ensures { let request = option_and_then (format_of image.now) (with_options no_options (bytes_of_words options.now)) in
         MatchOption result (request ≡ None) (λ read. request ≡ Some (asked read)) }
 {
     let options = read_options(FormatOptions::none(), options)?;
@@ -69,8 +68,8 @@ fn read_format<'a>(image: &'a str, options: &[&str]) -> Option<Request<'a>>
 }
 
 /// Whether a word may name an image.
-fn is_plain(word: &str) -> bool
-    ensures { result ≡ is_plain word.now }
+fn is_image_name(word: &str) -> bool
+    ensures { result ≡ is_image_name word.now }
 {
     match word.as_bytes() {
         [] => false,
@@ -80,7 +79,7 @@ fn is_plain(word: &str) -> bool
 
 /// The options with those of these words.
 fn read_options(options: FormatOptions, words: &[&str]) -> Option<FormatOptions>
-    ensures { result ≡ with_options options (texts words.now) }
+    ensures { result ≡ with_options options (bytes_of_words words.now) }
 {
     match words {
         [] => Some(options),

@@ -9,8 +9,6 @@ mod logging;
 mod meaning;
 mod mounting;
 mod replaying;
-#[cfg(test)]
-mod tests;
 mod volume;
 
 pub use answer::{Answer, Stopped};

@@ -1,8 +1,9 @@
 //! Logs a command: writes its record, and switches to a root that counts it.
-ghost use Rattle.std.specs.Prelude.{◌≡◌, ◌≢◌, ◌<◌, ◌≤◌, ◌+◌, [], IfOk, OnErr, IsTrue};
+ghost use Rattle.std.specs.Prelude.{◌≡◌, ◌≢◌, ◌<◌, ◌≤◌, ◌+◌, [], slice_get, Some, IfOk, OnErr, IsTrue};
 ghost use Rattle.vol_numbers.specs.Cause.{HasCause};
 ghost use Rattle.disk_model.specs.Disk.{EachImage};
 ghost use Rattle.disk_model.specs.Past.{Adds};
+ghost use Rattle.root_switch.specs.Current.{selector_block};
 ghost use Rattle.root_switch.specs.Root.{root_of, HasGeometry};
 ghost use Rattle.op_log.specs.Record.{IsLogged, record_blocks};
 ghost use Rattle.log_volume.specs.Image.{HasNext};
@@ -28,6 +29,7 @@ pub(crate) fn log<D: Disk>(
     ensures slot { IfOk result (λ next. next.slot < 2) }
     ensures grammar { IfOk result (λ next. HasGeometry (root_of next.body)) }
     ensures root { IfOk result (λ next. root_of next.body ≡ next_root (root_of current.now.body) command.now) }
+    ensures selector { IfOk result (λ next. IsTrue D.tells → slice_get (D.state disk.new).contents 0 ≡ Some (selector_block next.slot)) }
     ensures current { IfOk result (λ next. IsTrue D.tells → HasCurrent next.slot (root_of next.body) (D.state disk.new)) }
     ensures next { IfOk result (λ next. IsTrue D.tells → HasNext (D.state disk.old).contents (D.state disk.new).contents command.now) }
     // At each moment, and in what a failure leaves, each image keeps what is live, or has the next record.

@@ -1,8 +1,9 @@
 //! A volume whose tree is made by the records of its log alone.
-ghost use Rattle.std.specs.Prelude.{◌≡◌, ◌≢◌, ◌<◌, ◌≤◌, ◌+◌, ◌↔◌, ℕ, [], true, false, IfOk, OnOk, OnErr, IsOk, IsErrOf, IsTrue};
+ghost use Rattle.std.specs.Prelude.{◌≡◌, ◌≢◌, ◌<◌, ◌≤◌, ◌+◌, ◌↔◌, ℕ, [], slice_get, Some, true, false, IfOk, OnOk, OnErr, IsOk, IsErrOf, IsTrue};
 ghost use Rattle.vol_numbers.specs.Cause.{HasCause};
 ghost use Rattle.disk_model.specs.Disk.{EachImage};
 ghost use Rattle.disk_model.specs.Past.{Adds};
+ghost use Rattle.root_switch.specs.Current.{selector_block};
 ghost use Rattle.root_switch.specs.Root.{root_of, HasGeometry};
 ghost use Rattle.tree_model.specs.Shape.{IsTree};
 ghost use Rattle.tree_model.specs.Step.{is_plain, is_change};
@@ -98,6 +99,8 @@ impl LogVolume {
         ensures kept { IfOk result (λ answer. kept_by self.new ≡ after (accepted command.now answer) (kept_by self.old)) }
         ensures layout { self.new.root.layout ≡ self.old.root.layout }
         ensures fits { OnOk result (IsTrue D.tells → Fits self.new (D.state disk.new)) }
+        // After a command that was logged the selector is the one block that names the slot.
+        ensures selector { IfOk result (λ answer. accepted command.now answer ≢ [] → IsTrue D.tells → slice_get (D.state disk.new).contents 0 ≡ Some (selector_block self.new.slot)) }
 
         // At each moment each image stands for the tree of before or for that after the command, and so does what a failure leaves.
         ensures during { IsTrue D.tells → Adds (D.past disk.old) (D.past disk.new)
@@ -155,6 +158,7 @@ impl LogVolume {
         ensures layout { self.new.root.layout ≡ self.old.root.layout }
         ensures sound { self.new.is_failed ≡ self.old.is_failed }
         ensures fits { OnOk result (IsTrue D.tells → Fits self.new (D.state disk.new)) }
+        ensures selector { IfOk result (λ answer. accepted command.now answer ≢ [] → IsTrue D.tells → slice_get (D.state disk.new).contents 0 ≡ Some (selector_block self.new.slot)) }
         ensures during { IsTrue D.tells → Adds (D.past disk.old) (D.past disk.new)
             (EachImage (StandsForSome (kept_by self.old) (added self.old.root.layout.log_blocks (kept_by self.old) command.now result))) }
         ensures left { OnErr result (IsTrue D.tells

@@ -1,17 +1,9 @@
-//! Tests that cross crates: whole runs over media, sources and sinks in memory.
+//! Tests that cross crates and that no row of `server_rows` can hold: power cuts at each call, and the writes of an answer.
 #![tactic(auto)]
 
 #[cfg(test)]
 mod cuts;
 #[cfg(test)]
-mod ends;
-#[cfg(test)]
-mod findings;
-#[cfg(test)]
-mod formats;
-#[cfg(test)]
-mod logs;
-#[cfg(test)]
 mod runs;
 #[cfg(test)]
-mod sessions;
+mod writes;

@@ -1,27 +1,33 @@
-use Rattle.std.proofs.Common.{◌≡◌, ◌∙◌, ap, length, refl}
-use Rattle.disk_model.specs.Media.{Fixed}
-use Rattle.disk_model.proofs.Moments.{adds_none}
+use Rattle.std.proofs.Common.{◌≡◌, ◌∙◌, subst, sym, refl, arith}
 use Rattle.vol_numbers.specs.Geometry.{layout_of}
-use Rattle.log_volume.proofs.FormatLemmas.{IsLong, adds_long, with_counts-zero, with_counts-next}
+use Rattle.disk_model.specs.Disk.{State}
+use Rattle.disk_model.proofs.Moments.{adds_none}
+use Rattle.log_volume.specs.Formatting.{KeepsSelector}
+use Rattle.log_volume.proofs.FormatLemmas.{adds_keeps, counts_keep, with_counts-zero, with_counts-next}
 use Rattle.log_volume.proofs.formatting.write_counts.Goals as goal
 
 pub loop-i-init : goal.loop-i-init
 loop-i-init g c = record {
   state = λ tells. with_counts-zero (layout_of c.args.g.now) (g.D.Disk.state c.args.disk.now);
-  moments = λ tells. adds_none _ (IsLong c.args.g.now.blocks);
+  moments = λ tells. adds_none _ (KeepsSelector (g.D.Disk.state c.args.disk.now));
   fixed = λ i. g.D.Disk.fixed c.args.disk.now;
   faults = refl;
 }
 
+pub returns-in_err-write_block-clause-moments : goal.returns-in_err-write_block-clause-moments
+returns-in_err-write_block-clause-moments g c tells =
+    let so_far = c.loop-i.invariant in
+    let start : State = g.D.Disk.state c.args.disk.now in
+    adds_keeps (so_far.moments tells) (subst (KeepsSelector start) (sym (so_far.state tells)) (counts_keep (layout_of c.args.g.now) c.loop-i.i start)) (omega arith) c.write_block.ensures.moments
+
 pub loop-i-preserved : goal.loop-i-preserved
 loop-i-preserved g c =
     let so_far = c.loop-i.invariant in
+    let layout = layout_of c.args.g.now in
+    let start : State = g.D.Disk.state c.args.disk.now in
     record {
-      state = λ tells. with_counts-next (layout_of c.args.g.now) c.loop-i.i (g.D.Disk.state c.args.disk.now) _ _ _ (so_far.state tells) c.count_block.ensures (c.in_ok-write_block.ensures.written tells);
-      moments = λ tells.
-          let long : length (g.D.Disk.state c.loop-i.disk).contents ≡ c.args.g.now.blocks =
-          g.met.D.Disk.has_size c.loop-i.disk tells ∙ ap (λ (f : Fixed). f.size) so_far.fixed ∙ c.requires in
-          adds_long c.args.g.now.blocks (so_far.moments tells) long c.write_block.ensures.moments;
+      state = λ tells. with_counts-next layout c.loop-i.i start _ _ _ (so_far.state tells) c.count_block.ensures (c.in_ok-write_block.ensures.written tells);
+      moments = λ tells. adds_keeps (so_far.moments tells) (subst (KeepsSelector start) (sym (so_far.state tells)) (counts_keep layout c.loop-i.i start)) (omega arith) c.write_block.ensures.moments;
       fixed = c.write_block.ensures.fixed ∙ so_far.fixed;
       faults = c.in_ok-write_block.ensures.cause ∙ so_far.faults;
     }

@@ -1,10 +1,13 @@
-use Rattle.std.proofs.Common.{◌≡◌, ◌∙◌, length, ap}
+use Rattle.std.proofs.Common.{◌≡◌, arith, subst, sym}
 use Rattle.std.proofs.lemmas.Result.{on_ok_weaker}
-use Rattle.disk_model.specs.Media.{Fixed}
-use Rattle.disk_model.proofs.Moments.{adds_none}
+use Rattle.disk_model.specs.Disk.{State}
 use Rattle.vol_numbers.specs.Geometry.{layout_of}
-use Rattle.log_volume.proofs.FormatLemmas.{IsLong, adds_long, inodes_written}
+use Rattle.log_volume.specs.Formatting.{KeepsSelector}
+use Rattle.log_volume.proofs.FormatLemmas.{adds_keeping, adds_keeps, keeps_written, inodes_written}
 use Rattle.log_volume.proofs.formatting.write_inodes.Goals as goal
+
+pub returns-in_err-write_block-clause-moments : goal.returns-in_err-write_block-clause-moments
+returns-in_err-write_block-clause-moments g c tells = adds_keeping (omega (arith, c.area_start.ensures)) c.write_block.ensures.moments
 
 pub returns-clause-written : goal.returns-clause-written
 returns-clause-written g c = on_ok_weaker c.write_block-2.result (λ second tells.
@@ -13,8 +16,6 @@ returns-clause-written g c = on_ok_weaker c.write_block-2.result (λ second tell
 
 pub returns-clause-moments : goal.returns-clause-moments
 returns-clause-moments g c tells =
-    let n = c.args.g.now.blocks in
-    let long : length (g.D.Disk.state c.args.disk.now).contents ≡ n = g.met.D.Disk.has_size c.args.disk.now tells ∙ c.requires in
-    let longer : length (g.D.Disk.state c.write_block.new.self).contents ≡ n =
-    g.met.D.Disk.has_size c.write_block.new.self tells ∙ ap (λ (f : Fixed). f.size) c.write_block.ensures.fixed ∙ c.requires in
-    adds_long n (adds_long n (adds_none _ (IsLong n)) long c.write_block.ensures.moments) longer c.write_block-2.ensures.moments
+    let before : State = g.D.Disk.state c.args.disk.now in
+    let first = adds_keeping (omega (arith, c.area_start.ensures)) c.write_block.ensures.moments in
+    adds_keeps first (subst (KeepsSelector before) (sym (c.in_ok-write_block.ensures.written tells)) (keeps_written _ _ before (omega (arith, c.area_start.ensures)))) (omega arith) c.write_block-2.ensures.moments
