@@ -1,7 +1,9 @@
 #!/usr/bin/env bash
-# Does the server's main job on a scratch image, and shows what is typed, what it answers and its status.
+# Shows what the file server does: what is typed, what it answers, and its status. First a format and a session over an image in memory, of
+# which nothing is proved yet, and then, once the program is proved and built, the same and more on a scratch image.
 set -eu
 top=$(cd "$(dirname "$0")" && pwd)
+command -v rt >/dev/null || { echo 'demo.sh: the command rt of the Rattle kit is missing' >&2; exit 1; }
 scratch=$(mktemp -d)
 trap 'rm -rf "$scratch"' EXIT
 cd "$scratch"
@@ -13,12 +15,6 @@ idedup() {
     printf '(status %s)\n' "$status"
 }
 
-idedup format v --blocks 2048 --log 64
-printf '\n$ od of the root slot of v: its name, the version, the blocks, the log, and the inode index\n'
-od -A d -t x1 -j 4096 -N 48 v
-idedup format v --blocks 164 --log 64
-idedup format absent/v
-
 # Runs a session on the lines that it is given.
 session() {
     printf '\n$ idedup serve v <<end of input\n'
@@ -29,8 +25,28 @@ session() {
     printf '(status %s)\n' "$status"
 }
 
-session 'mkdir /My%20Photos' 'create /My%20Photos/note' 'write /My%20Photos/note 0 6' 'hello!' 'read /My%20Photos/note 0 100' \
-    'create /My%20Photos/note' 'chmod /My%20Photos' end
+first=('mkdir /My%20Photos' 'create /My%20Photos/note' 'write /My%20Photos/note 0 6' 'hello!' 'read /My%20Photos/note 0 100'
+    'create /My%20Photos/note' 'chmod /My%20Photos' end)
+
+# The program of rows serves images in memory: `call` has the words of a call, and the lines behind `>` before it are its input.
+at_once() {
+    printf 'call format v --blocks 2048 --log 64\n'
+    printf '> %s\n' "${first[@]}"
+    printf 'call serve v\n'
+}
+
+echo 'A format and a session, at once: the same code as it is compiled without a proof (about half a minute).'
+printf '\n$ idedup format v --blocks 2048 --log 64; idedup serve v <<end of input\n'
+printf '%s\n' "${first[@]}" 'end of input'
+at_once | (cd "$top/crates/server_rows" && rt try) | grep -v '^checked: \|^run='
+printf '\nNothing of that was proved. From here on it is the proved program, on files.\n'
+
+idedup format v --blocks 2048 --log 64
+printf '\n$ od of the root slot of v: its name, the version, the blocks, the log, and the inode index\n'
+od -A d -t x1 -j 4096 -N 48 v
+idedup format v --blocks 164 --log 64
+idedup format absent/v
+session "${first[@]}"
 printf '\nA second session finds what the first one was told is done:\n'
 session 'list /' 'list /My%20Photos' 'rename /My%20Photos/note /note' 'stat /note' 'remove /My%20Photos' 'read /note 0 5'
 printf '\nThe record of the write in the log:\n'
