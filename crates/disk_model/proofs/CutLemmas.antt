@@ -5,7 +5,8 @@ use Rattle.std.specs.List.{AllByRecursion}
 use Rattle.std.proofs.lemmas.List.{length-set}
 use Rattle.std.proofs.lemmas.List.Elements.{All-from_recursion}
 use Rattle.std.proofs.lemmas.Option.{slice_get_within}
-use Rattle.std.proofs.lemmas.Bool.Decides.{nat_tests}
+use Rattle.std.proofs.lemmas.Bool.{false≢true, eqb-true, eq-eqb}
+use Rattle.std.proofs.Math.Bool.{or-true}
 use Rattle.vol_numbers.specs.declared.block.Block.{Block}
 use Rattle.disk_model.specs.Disk.{State, IsImage, is_among, picked}
 use Rattle.disk_model.specs.Cuts.{EachImageIsPicked}
@@ -51,7 +52,7 @@ gets_next : (n : ℕ) (ns : List ℕ) (image blocks : List Block) (k : ℕ) (o :
     → slice_get (picked (pick_if n o (picks_of ns image)) blocks) k ≡ left_at (n ∷ ns) image blocks k
 gets_next n ns image blocks k None long e rest =
     rest blocks long ∙ left_next (is_among ns k) (k == n) (slice_get image k) (slice_get blocks k) (slice_get blocks k)
-    (λ at. let same : k ≡ n = grind (arith, nat_tests) in
+    (λ at. let same : k ≡ n = eqb-true k n at in
     let none : slice_get image k ≡ None = ap (λ (i : ℕ). slice_get image i) same ∙ e in
     both_past image blocks k long none ∙ sym none)
     (λ other. refl)
@@ -59,9 +60,9 @@ gets_next n ns image blocks k (Some block) long e rest =
     let within : n < length blocks = omega (arith, slice_get_within image n block e) in
     rest (slice_set blocks n block) (long ∙ sym (length-set blocks n block))
     ∙ left_next (is_among ns k) (k == n) (slice_get image k) (slice_get blocks k) (slice_get (slice_set blocks n block) k)
-    (λ at. let same : k ≡ n = grind (arith, nat_tests) in
+    (λ at. let same : k ≡ n = eqb-true k n at in
     ap (λ (i : ℕ). slice_get (slice_set blocks n block) i) same ∙ slice_get-set_same blocks n block within ∙ sym (ap (λ (i : ℕ). slice_get image i) same ∙ e))
-    (λ other. let ne : k ≢ n = grind (arith, nat_tests) in slice_get-set_other blocks n k block ne)
+    (λ other. let ne : k ≢ n = λ e. false≢true (sym other ∙ eq-eqb k n e) in slice_get-set_other blocks n k block ne)
 
 gets_picked : (ns : List ℕ) (image blocks : List Block) (k : ℕ) → length image ≡ length blocks → slice_get (picked (picks_of ns image) blocks) k ≡ left_at ns image blocks k
 gets_picked [] image blocks k long = refl
@@ -75,9 +76,9 @@ open_next whole n (Some block) picks is rest = (is, rest)
 picks_open : (whole ns : List ℕ) (image : List Block) → ((k : ℕ) → is_among ns k ≡ true → is_among whole k ≡ true) → AllByRecursion (λ (pick : Pick). is_among whole pick.at ≡ true) (picks_of ns image)
 picks_open whole [] image among = tt
 picks_open whole (n ∷ ns) image among =
-    let here : is_among (n ∷ ns) n ≡ true = grind (arith, nat_tests) in
+    let here : is_among (n ∷ ns) n ≡ true = ap (λ (b : Bool). b || is_among ns n) (eq-eqb n n refl) in
     open_next whole n (slice_get image n) (picks_of ns image) (among n here)
-    (picks_open whole ns image (λ k is. let also : is_among (n ∷ ns) k ≡ true = grind (arith, nat_tests) in among k also))
+    (picks_open whole ns image (λ k is. among k (ap (λ (b : Bool). k == n || b) is ∙ or-true (k == n))))
 
 gets_image : (s : State) (image : List Block) → IsImage s image → (b : Bool) (k : ℕ) → is_among s.unsynced k ≡ b → (if b then slice_get image k else slice_get s.contents k) ≡ slice_get image k
 gets_image s image is true k e = refl

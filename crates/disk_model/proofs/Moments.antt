@@ -1,7 +1,7 @@
 -- How the images and the moments of several calls follow from those of each.
-use Rattle.std.specs.Prelude.{◌≡◌, ◌≢◌, ◌≤◌, ◌<◌, ◌==◌, nat_lt, if◌then◌else◌, ℕ, zero, suc, Bool, true, false, List, [], ◌∷◌, length, slice_get, slice_set, Some, refl}
+use Rattle.std.specs.Prelude.{◌≡◌, ◌≢◌, ◌≤◌, ◌<◌, ◌==◌, ◌||◌, nat_lt, if◌then◌else◌, ℕ, zero, suc, Bool, true, false, List, [], ◌∷◌, length, slice_get, slice_set, Some, refl}
 use Rattle.std.proofs.Common.{sym, ◌∙◌, ap, subst, inl, inr, ⊎_elim, arith}
-use Rattle.std.proofs.lemmas.Bool.Decides.{nat_tests}
+use Rattle.std.proofs.lemmas.Bool.Decides.{eqb_tells}
 use Rattle.vol_numbers.specs.declared.block.Block.{Block}
 use Rattle.disk_model.specs.Disk.{State, included, is_among, written, synced, IsImage, DuringWrite, DuringWriteThrough}
 use Rattle.disk_model.specs.Past.{Past, Adds}
@@ -35,9 +35,18 @@ slice_get-set_same [] i x lt = absurd (omega arith)
 slice_get-set_same (y ∷ xs) zero x lt = refl
 slice_get-set_same (y ∷ xs) (suc i) x lt = slice_get-set_same xs i x (omega arith)
 
+apart : (a b : ℕ) → a ≢ b → (a == b) ≡ false
+apart a b ne = ⊎_elim (λ same. absurd (ne same.1)) (λ other. other.0) (eqb_tells a b)
+
+among_either : (at k n : ℕ) (ns : List ℕ) → k ≢ at → is_among (included at ns) k ≡ is_among ns k → (b c : Bool)
+    → is_among (if b then n ∷ ns else if c then at ∷ n ∷ ns else n ∷ included at ns) k ≡ is_among (n ∷ ns) k
+among_either at k n ns ne rest true c = refl
+among_either at k n ns ne rest false true = ap (λ (b : Bool). b || is_among (n ∷ ns) k) (apart k at ne)
+among_either at k n ns ne rest false false = ap (λ (b : Bool). k == n || b) rest
+
 pub is_among-included : (at k : ℕ) (ns : List ℕ) → k ≢ at → is_among (included at ns) k ≡ is_among ns k
-is_among-included at k [] ne = grind (arith, nat_tests)
-is_among-included at k (n ∷ ns) ne = let rest = is_among-included at k ns ne in grind (arith, nat_tests, rest)
+is_among-included at k [] ne = ap (λ (b : Bool). b || false) (apart k at ne)
+is_among-included at k (n ∷ ns) ne = among_either at k n ns ne (is_among-included at k ns ne) (at == n) (nat_lt at n)
 
 -- a block that is not written and was synced is in each image of what a write makes
 pub kept_in_image : (s : State) (at : ℕ) (block : Block) (image : List Block) (k : ℕ) → IsImage (written at block s) image → k ≢ at → is_among s.unsynced k ≡ false

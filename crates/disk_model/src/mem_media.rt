@@ -12,7 +12,7 @@ ghost use Rattle.disk_model.specs.Media.{image_named, of_size};
 ghost use Rattle.disk_model.specs.Planned.{open_plan, open_junk};
 ghost use Rattle.disk_model.specs.declared.media.OpenFault.TheVariants.{Failed};
 
-use crate::named::{Named, add, is_name, place, put_back, take_out};
+use crate::named::{Named, add, change_over, is_name, place};
 use crate::{Disk, DiskFault, LastRead, Media, MemDisk, OpenFault, SureDisk};
 use std::alloc::{AllocError, Global};
 use std::mem;
@@ -190,8 +190,7 @@ impl MemMedia {
     {
         pass(&mut self.earlier, &mut self.is_told, &self.disk);
         let closed = mem::replace(&mut self.disk, MemDisk::none(self.alloc));
-        put_back(&mut self.others, self.name.take(), closed);
-        let found = take_out(&mut self.others, own.as_str());
+        let found = change_over(&mut self.others, self.name.take(), closed, own.as_str());
         self.disk = opened(self.alloc, found, fresh);
         self.name = Some(own);
     }

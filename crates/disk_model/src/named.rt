@@ -33,7 +33,7 @@ pub(crate) fn place(images: &[Named], name: &str) -> Option<usize>
 }
 
 /// Takes the first image of that name out.
-pub(crate) fn take_out(images: &mut Vec<Named>, name: &str) -> Option<MemDisk>
+fn take_out(images: &mut Vec<Named>, name: &str) -> Option<MemDisk>
     ensures found { option_map state_of result ≡ find_named images.old.items name.now }
     ensures others { (other : List ℕ) → other ≢ name.now → find_named images.new.items other ≡ find_named images.old.items other }
     ensures room { vec_len images.new ≤ vec_len images.old }
@@ -45,7 +45,7 @@ pub(crate) fn take_out(images: &mut Vec<Named>, name: &str) -> Option<MemDisk>
 }
 
 /// Puts a disk that is closed before the others, which have room for it. One with no name is dropped.
-pub(crate) fn put_back(images: &mut Vec<Named>, name: Option<String>, disk: MemDisk)
+fn put_back(images: &mut Vec<Named>, name: Option<String>, disk: MemDisk)
     requires { vec_len images.old < vec_capacity images.old }
     ensures { (other : List ℕ) → find_named images.new.items other
         ≡ (if is_name_of (option_map string_bytes name) other then Some (state_of disk) else find_named images.old.items other) }
@@ -53,6 +53,23 @@ pub(crate) fn put_back(images: &mut Vec<Named>, name: Option<String>, disk: MemD
     if let Some(name) = name {
         let _ = images.insert(0, Named { name, disk });
     }
+}
+
+/// Puts a disk that is closed among the others, and takes out the one that is opened in its place.
+pub(crate) fn change_over(
+    images: &mut Vec<Named>,
+    closed: Option<String>,
+    disk: MemDisk,
+    name: &str,
+) -> Option<MemDisk>
+    requires { vec_len images.old < vec_capacity images.old }
+    ensures found { option_map state_of result
+        ≡ (if is_name_of (option_map string_bytes closed) name.now then Some (state_of disk) else find_named images.old.items name.now) }
+    ensures others { (other : List ℕ) → other ≢ name.now → find_named images.new.items other
+        ≡ (if is_name_of (option_map string_bytes closed) other then Some (state_of disk) else find_named images.old.items other) }
+{
+    put_back(images, closed, disk);
+    take_out(images, name)
 }
 
 /// Adds an image before the others, or drops it where there is no memory.
