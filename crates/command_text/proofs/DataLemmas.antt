@@ -7,7 +7,7 @@ use Rattle.command_text.specs.declared.fault.TextFault.{TextFault}
 use Rattle.command_text.specs.declared.fault.TextFault.TheVariants.{BadStream, OutOfMemory}
 use Rattle.command_text.specs.declared.item.Item.{Item}
 use Rattle.command_text.specs.declared.item.Item.TheVariants as item
-use Rattle.command_text.specs.declared.line.Line.TheVariants as line
+use Rattle.command_text.specs.declared.line.Said.TheVariants as line
 use Rattle.tree_model.specs.declared.command.Command.{Command}
 use Rattle.tree_model.specs.declared.refusal.Refusal.{Refusal}
 use Rattle.command_text.specs.Lines.{line_in}

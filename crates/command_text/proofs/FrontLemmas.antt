@@ -8,8 +8,8 @@ use Rattle.std.proofs.lemmas.List.{take-append-le, drop-append-le}
 use Rattle.tree_model.specs.declared.command.Command.{Command}
 use Rattle.tree_model.specs.declared.refusal.Refusal.{Refusal}
 use Rattle.command_text.specs.declared.item.Item.TheVariants as item
-use Rattle.command_text.specs.declared.line.Line.{Line}
-use Rattle.command_text.specs.declared.line.Line.TheVariants as line
+use Rattle.command_text.specs.declared.line.Said.{Said}
+use Rattle.command_text.specs.declared.line.Said.TheVariants as line
 use Rattle.command_text.specs.Lines.{line_in}
 use Rattle.command_text.specs.Front.{front, front_up_to, front_of_line, front_of_data, write_of, is_newline}
 use Rattle.command_text.specs.Front.Front.{Whole, Wrong, Partial}
@@ -39,13 +39,13 @@ unfolding front
 front_of_ended bytes i ends = ap (front_up_to bytes) ends.found ∙ cond-true (nat_le i 8192) (front_of_line (line_in (take i bytes)) (i + 1) (drop (i + 1) bytes)) Wrong (le_true i 8192 ends.at_most)
 
 pub front_command : (bytes : List ℕ) (i : ℕ) (command : Command) → LineEnds bytes i → line_in (take i bytes) ≡ line.Command command → front bytes ≡ Whole (item.Command command) (i + 1)
-front_command bytes i command ends says = front_of_ended bytes i ends ∙ ap (λ (l : Line). front_of_line l (i + 1) (drop (i + 1) bytes)) says
+front_command bytes i command ends says = front_of_ended bytes i ends ∙ ap (λ (l : Said). front_of_line l (i + 1) (drop (i + 1) bytes)) says
 
 pub front_refused : (bytes : List ℕ) (i : ℕ) (refusal : Refusal) → LineEnds bytes i → line_in (take i bytes) ≡ line.Refused refusal → front bytes ≡ Whole (item.Refused refusal) (i + 1)
-front_refused bytes i refusal ends says = front_of_ended bytes i ends ∙ ap (λ (l : Line). front_of_line l (i + 1) (drop (i + 1) bytes)) says
+front_refused bytes i refusal ends says = front_of_ended bytes i ends ∙ ap (λ (l : Said). front_of_line l (i + 1) (drop (i + 1) bytes)) says
 
 pub front_of_write : (bytes : List ℕ) (i : ℕ) (path : Option (List (List ℕ))) (offset count : ℕ) → AsksToWrite bytes i path offset count → front bytes ≡ front_of_data path offset count (i + 1) (drop (i + 1) bytes)
-front_of_write bytes i path offset count asks = front_of_ended bytes i asks.ends ∙ ap (λ (l : Line). front_of_line l (i + 1) (drop (i + 1) bytes)) asks.says
+front_of_write bytes i path offset count asks = front_of_ended bytes i asks.ends ∙ ap (λ (l : Said). front_of_line l (i + 1) (drop (i + 1) bytes)) asks.says
 
 module _ (bytes : List ℕ) (i : ℕ) (path : Option (List (List ℕ))) (offset count : ℕ) (asks : AsksToWrite bytes i path offset count) where
   pub front_short : length bytes < i + 1 + count + 1 → front bytes ≡ Partial

@@ -6,7 +6,7 @@ use Rattle.std.specs.List.{list_all, slice_split}
 use Rattle.std.proofs.lemmas.Bool.{cond_both, false≢true}
 use Rattle.std.proofs.lemmas.Bool.Decides.{nat_tests}
 use Rattle.std.proofs.lemmas.List.Splits.{length-slice_split}
-use Rattle.command_text.specs.declared.line.Line.{Line}
+use Rattle.command_text.specs.declared.line.Said.{Said}
 use Rattle.command_text.specs.Numbers.{number_in, length_in}
 use Rattle.command_text.specs.Lines.{line_in, line_of_parts, has_bytes, bad_command, bare_line, path_verb, path_line, two_line, three_line, read_line, write_line}
 
@@ -20,7 +20,7 @@ some_part p text =
     first_of_some [] some = absurd (omega arith)
     first_of_some (part ∷ more) some = (part, more, refl)
 
-same_both : (test : Bool) (line : Line) → cond test line line ≡ line
+same_both : (test : Bool) (line : Said) → cond test line line ≡ line
 same_both true line = refl
 same_both false line = refl
 

@@ -5,7 +5,7 @@ use Rattle.std.proofs.lemmas.Bool.{cases_lt, cases_Bool}
 use Rattle.tree_model.specs.declared.command.Command.{Command}
 use Rattle.tree_model.specs.declared.refusal.Refusal.{Refusal}
 use Rattle.command_text.specs.declared.item.Item.{Item}
-use Rattle.command_text.specs.declared.line.Line.TheVariants as line
+use Rattle.command_text.specs.declared.line.Said.TheVariants as line
 use Rattle.command_text.specs.Lines.{line_in}
 use Rattle.command_text.specs.Front.{is_newline}
 use Rattle.command_text.specs.Front.Front.{Whole, Wrong, Partial}

@@ -28,9 +28,6 @@ few_pass before name rest many =
     let all = length-append before (name ∷ rest) in
     grind (arith, nat_tests)
 
-pub few_are : (names : List (List ℕ)) → list_all is_name names ≡ true → length names ≤ 32 → few_names names ≡ Some names
-few_are names all few = grind (arith, nat_tests)
-
 -- one name more
 pub names_more : (names : List (List ℕ)) (name : List ℕ) → list_all is_name names ≡ true → is_name name ≡ true → list_all is_name (names ++ name ∷ []) ≡ true
 names_more names name all is =

@@ -20,9 +20,6 @@ module _ (p : ℕ → Bool) (xs : List ℕ) where
   pub found_at : (i : ℕ) → position_or_len p xs ≡ i → i < length xs → position p xs ≡ Some i
   found_at i is within = grind (arith, nat_tests)
 
-  pub not_found : length xs ≤ position_or_len p xs → position p xs ≡ None
-  not_found past = grind (arith, nat_tests)
-
   pub fails_before : (i : ℕ) → position p xs ≡ Some i → (k : ℕ) → k < i → p (get_or xs k 0) ≡ false
   fails_before i found k before = let place = place_of_found i found in fails_before_first p xs k 0 (omega arith)
 

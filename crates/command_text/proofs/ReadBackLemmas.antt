@@ -13,8 +13,8 @@ use Rattle.tree_model.specs.declared.command.Command.{Command}
 use Rattle.tree_model.specs.declared.command.Command.TheVariants.{Mkdir, Create, Write, Truncate, Remove, Rename, Read, List as ListOf, Stat, Layout, Space, Checkpoint, End}
 use Rattle.command_text.specs.declared.item.Item.{Item}
 use Rattle.command_text.specs.declared.item.Item.TheVariants as item
-use Rattle.command_text.specs.declared.line.Line.{Line}
-use Rattle.command_text.specs.declared.line.Line.TheVariants as line
+use Rattle.command_text.specs.declared.line.Said.{Said}
+use Rattle.command_text.specs.declared.line.Said.TheVariants as line
 use Rattle.command_text.specs.declared.verb.PathVerb.{PathVerb}
 use Rattle.command_text.specs.declared.verb.PathVerb.TheVariants as verb
 use Rattle.command_text.specs.Filling.{LineEnds, AsksToWrite, IsWhole}
@@ -74,12 +74,12 @@ first_field field text fields all rest = record {
 -- ---- lines
 
 -- a text that is a line of at most 8,192 bytes and says this
-record Says (text : List ℕ) (line : Line) : Type 0 where
+record Says (text : List ℕ) (line : Said) : Type 0 where
   pub says : line_in text ≡ line
   pub ends : All IsOfLine text
   pub short : length text ≤ 8192
 
-said : (text : List ℕ) (fields : List (List ℕ)) (line : Line) → Cut text fields → line_of_parts fields ≡ line → length text ≤ 8192 → Says text line
+said : (text : List ℕ) (fields : List (List ℕ)) (line : Said) → Cut text fields → line_of_parts fields ≡ line → length text ≤ 8192 → Says text line
 said text fields line cut is short = record { says = line_of_split text fields cut.parts ∙ is; ends = cut.ends; short = short }
 
 abbrev passes : List ℕ → Bool
@@ -124,7 +124,7 @@ renames from to one two =
 
 -- a verb, a path and two numbers
 module _ (word : List ℕ) (path : Path) (offset count : ℕ) (plain : passes word ≡ true) (short : length word ≤ 100) (is : IsCommandPath path) (small : offset < 2 ^ 64) (at_most : count ≤ 65536) where
-  three_say : (line : Line) → line_of_parts (word ∷ path_spelling path ∷ decimal offset ∷ decimal count ∷ []) ≡ line → Says (word ++ 32 ∷ (path_spelling path ++ 32 ∷ (decimal offset ++ 32 ∷ decimal count))) line
+  three_say : (line : Said) → line_of_parts (word ∷ path_spelling path ∷ decimal offset ∷ decimal count ∷ []) ≡ line → Says (word ++ 32 ∷ (path_spelling path ++ 32 ∷ (decimal offset ++ 32 ∷ decimal count))) line
   three_say line is_line =
       let field = path_spelling path in
       let first = decimal offset in
@@ -185,10 +185,10 @@ newline_behind text rest all =
     let here : get_or (text ++ 10 ∷ rest) (length text) 0 ≡ 10 = ap (λ (k : ℕ). get_or (text ++ 10 ∷ rest) k 0) (omega arith) ∙ get_or-append-add text (10 ∷ rest) 0 0 in
     found_at is_newline (text ++ 10 ∷ rest) (length text) (position_or_len_is is_newline (text ++ 10 ∷ rest) (length text) 0 (omega arith) before (λ _. ap is_newline here)) (omega arith)
 
-line_ends : (text rest : List ℕ) (line : Line) → Says text line → LineEnds (text ++ 10 ∷ rest) (length text)
+line_ends : (text rest : List ℕ) (line : Said) → Says text line → LineEnds (text ++ 10 ∷ rest) (length text)
 line_ends text rest line says = record { found = newline_behind text rest says.ends; at_most = says.short }
 
-line_says : (text rest : List ℕ) (line : Line) → Says text line → line_in (take (length text) (text ++ 10 ∷ rest)) ≡ line
+line_says : (text rest : List ℕ) (line : Said) → Says text line → line_in (take (length text) (text ++ 10 ∷ rest)) ≡ line
 line_says text rest line says = ap line_in (take_front text (10 ∷ rest)) ∙ says.says
 
 -- all of these bytes spell the item

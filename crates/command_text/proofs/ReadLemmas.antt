@@ -18,8 +18,8 @@ use Rattle.command_text.proofs.PieceLemmas.{LastPiece, last_piece}
 use Rattle.command_text.specs.Reading.{Reading, unread, ReadsNext, Undecided, Falls, settled}
 use Rattle.command_text.specs.Filling.{Fills, IsWrong, IsWhole, EndsInside, Stopped, GivesItem, Answers, ReadsSettled}
 
-abbrev text_of : List ℕ → List ℕ → ℕ → Text
-text_of held left budget = record { bytes = held ++ left; budget = length held + budget; is_over = false }
+abbrev text_behind : List ℕ → List ℕ → ℕ → Text
+text_behind held left budget = record { bytes = held ++ left; budget = length held + budget; is_over = false }
 
 pub over_ends : (text : Text) → text.is_over ≡ true → next text ≡ Ended
 unfolding next
@@ -29,43 +29,43 @@ next_goes_on : (text : Text) → text.is_over ≡ false → next text ≡ next_f
 unfolding next
 next_goes_on text over = cond-false text.is_over Ended (next_from text (front (take text.budget text.bytes))) over
 
-next_seen : (held left : List ℕ) (budget : ℕ) → next (text_of held left budget) ≡ next_from (text_of held left budget) (front (held ++ take budget left))
-next_seen held left budget = next_goes_on (text_of held left budget) refl ∙ ap (λ (l : List ℕ). next_from (text_of held left budget) (front l)) (take-append-add held left budget)
+next_seen : (held left : List ℕ) (budget : ℕ) → next (text_behind held left budget) ≡ next_from (text_behind held left budget) (front (held ++ take budget left))
+next_seen held left budget = next_goes_on (text_behind held left budget) refl ∙ ap (λ (l : List ℕ). next_from (text_behind held left budget) (front l)) (take-append-add held left budget)
 
 next_whole : (held left : List ℕ) (budget : ℕ) (item : Item) (count : ℕ) → IsWhole held item count
-    → next (text_of held left budget) ≡ Given item (record { bytes = drop count held ++ left; budget = length (drop count held) + budget; is_over = is_end item })
+    → next (text_behind held left budget) ≡ Given item (record { bytes = drop count held ++ left; budget = length (drop count held) + budget; is_over = is_end item })
 next_whole held left budget item count whole =
     let bytes : drop count (held ++ left) ≡ drop count held ++ left = drop-append-le count held left whole.within in
     let counted : length held + budget - count ≡ length (drop count held) + budget = let within = whole.within in omega (arith, length-drop count held) in
     next_seen held left budget
-    ∙ ap (next_from (text_of held left budget)) (whole.whole (take budget left))
+    ∙ ap (next_from (text_behind held left budget)) (whole.whole (take budget left))
     ∙ ap (λ (l : List ℕ). Given item (record { bytes = l; budget = length held + budget - count; is_over = is_end item })) bytes
     ∙ ap (λ (n : ℕ). Given item (record { bytes = drop count held ++ left; budget = n; is_over = is_end item })) counted
 
-next_wrong : (held left : List ℕ) (budget : ℕ) → IsWrong held → next (text_of held left budget) ≡ Bad
-next_wrong held left budget wrong = next_seen held left budget ∙ ap (next_from (text_of held left budget)) (wrong (take budget left))
+next_wrong : (held left : List ℕ) (budget : ℕ) → IsWrong held → next (text_behind held left budget) ≡ Bad
+next_wrong held left budget wrong = next_seen held left budget ∙ ap (next_from (text_behind held left budget)) (wrong (take budget left))
 
-next_spent : (held left : List ℕ) (budget : ℕ) → Undecided held → budget ≡ 0 → next (text_of held left budget) ≡ Spent
+next_spent : (held left : List ℕ) (budget : ℕ) → Undecided held → budget ≡ 0 → next (text_behind held left budget) ≡ Spent
 next_spent held left budget undecided spent =
     let none : take budget left ≡ [] = ap (λ (n : ℕ). take n left) spent in
     let fits : nat_le (length held + budget) (length (held ++ left)) ≡ true = let e = length-append held left in grind (arith, nat_tests) in
     next_seen held left budget
-    ∙ ap (λ (l : List ℕ). next_from (text_of held left budget) (front (held ++ l))) none
-    ∙ ap (λ (l : List ℕ). next_from (text_of held left budget) (front l)) (append-nil held)
-    ∙ ap (next_from (text_of held left budget)) undecided
+    ∙ ap (λ (l : List ℕ). next_from (text_behind held left budget) (front (held ++ l))) none
+    ∙ ap (λ (l : List ℕ). next_from (text_behind held left budget) (front l)) (append-nil held)
+    ∙ ap (next_from (text_behind held left budget)) undecided
     ∙ cond-true (nat_le (length held + budget) (length (held ++ left))) Spent (at_input_end (held ++ left)) fits
 
 take_none : (n : ℕ) (l : List ℕ) → l ≡ [] → take n l ≡ []
 take_none n l nothing = grind (arith, common_steps)
 
-next_at_end : (held left : List ℕ) (budget : ℕ) → Undecided held → 0 < budget → left ≡ [] → next (text_of held left budget) ≡ at_input_end held
+next_at_end : (held left : List ℕ) (budget : ℕ) → Undecided held → 0 < budget → left ≡ [] → next (text_behind held left budget) ≡ at_input_end held
 next_at_end held left budget undecided some nothing =
     let none : take budget left ≡ [] = take_none budget left nothing in
     let more : nat_le (length held + budget) (length (held ++ left)) ≡ false = let e = length-append held left in let l = ap length nothing in grind (arith, nat_tests) in
     next_seen held left budget
-    ∙ ap (λ (l : List ℕ). next_from (text_of held left budget) (front (held ++ l))) none
-    ∙ ap (λ (l : List ℕ). next_from (text_of held left budget) (front l)) (append-nil held)
-    ∙ ap (next_from (text_of held left budget)) undecided
+    ∙ ap (λ (l : List ℕ). next_from (text_behind held left budget) (front (held ++ l))) none
+    ∙ ap (λ (l : List ℕ). next_from (text_behind held left budget) (front l)) (append-nil held)
+    ∙ ap (next_from (text_behind held left budget)) undecided
     ∙ cond-false (nat_le (length held + budget) (length (held ++ left))) Spent (at_input_end (held ++ left)) more
     ∙ ap at_input_end (ap (λ (l : List ℕ). held ++ l) nothing ∙ append-nil held)
 
@@ -78,7 +78,7 @@ unfolding front
 nothing_undecided = refl
 
 -- what is to be read stays the same while bytes are taken
-same_text : (old full : Reading) (from to : Input) → Fills Undecided old full from to → old.is_over ≡ false → IsTrue from.is_told → unread old from ≡ text_of full.held to.left full.budget
+same_text : (old full : Reading) (from to : Input) → Fills Undecided old full from to → old.is_over ≡ false → IsTrue from.is_told → unread old from ≡ text_behind full.held to.left full.budget
 same_text old full from to fills over told =
     let bytes : old.held ++ from.left ≡ full.held ++ to.left = ap (λ (l : List ℕ). old.held ++ l) (fills.takes.next told) ∙ sym (append_assoc old.held fills.taken to.left) ∙ ap (λ (l : List ℕ). l ++ to.left) (sym fills.held) in
     let counted : length old.held + old.budget ≡ length full.held + full.budget = omega (arith, fills.counted, ap length fills.held, length-append old.held fills.taken) in
@@ -86,12 +86,12 @@ same_text old full from to fills over told =
     ∙ ap (λ (n : ℕ). record { bytes = full.held ++ to.left; budget = n; is_over = old.is_over }) counted
     ∙ ap (λ (b : Bool). record { bytes = full.held ++ to.left; budget = length full.held + full.budget; is_over = b }) over
 
-given : (full before : Reading) (to : Input) (item : Item) → GivesItem item full before → next (text_of full.held to.left full.budget) ≡ Given item (unread (record before { is_over = is_end item }) to)
+given : (full before : Reading) (to : Input) (item : Item) → GivesItem item full before → next (text_behind full.held to.left full.budget) ≡ Given item (unread (record before { is_over = is_end item }) to)
 given full before to item gives =
     next_whole full.held to.left full.budget item gives.count gives.whole
     ∙ ap (λ (r : Reading). Given item (unread (record r { is_over = is_end item }) to)) (sym gives.behind)
 
-stopped_next : (fault : TextFault) (full : Reading) (from to : Input) (behind : Text) → IsTrue from.is_told → Stopped fault full from to → ReadsNext (next (text_of full.held to.left full.budget)) behind (Err fault)
+stopped_next : (fault : TextFault) (full : Reading) (from to : Input) (behind : Text) → IsTrue from.is_told → Stopped fault full from to → ReadsNext (next (text_behind full.held to.left full.budget)) behind (Err fault)
 stopped_next BadStream full from to behind told stopped =
     ⊎_elim
     (λ (wrong : IsWrong full.held). next_wrong full.held to.left full.budget wrong)
@@ -102,7 +102,7 @@ stopped_next Source full from to behind told stopped = tt
 stopped_next OutOfMemory full from to behind told stopped = tt
 
 answered_next : (full before : Reading) (from to : Input) (result : Result Item TextFault) → IsTrue from.is_told → Answers full before from to result
-    → ReadsNext (next (text_of full.held to.left full.budget)) (unread (settled before result) to) result
+    → ReadsNext (next (text_behind full.held to.left full.budget)) (unread (settled before result) to) result
 answered_next full before from to (Ok (item.Command command)) told answers = given full before to (item.Command command) answers
 answered_next full before from to (Ok (item.Refused refusal)) told answers = given full before to (item.Refused refusal) answers
 answered_next full before from to (Ok item.Ended) told answers =

@@ -150,12 +150,6 @@ entry_tells a b x y one two same =
         let with_name : List ℕ → Entry = λ x. record { kind = b.kind; number = b.number; name = x } in
         ap with_kind k ∙ ap with_number n ∙ ap with_name m
 
-pub two_right : (m n : ℕ) (x : List ℕ) → (decimal m ++ codes " " ++ decimal n ++ codes "\n") ++ x ≡ decimal m ++ 32 ∷ (decimal n ++ 10 ∷ x)
-two_right m n x = simp append_assoc
-
-pub three_right : (k m n : ℕ) (x : List ℕ) → (decimal k ++ codes " " ++ decimal m ++ codes " " ++ decimal n ++ codes "\n") ++ x ≡ decimal k ++ 32 ∷ (decimal m ++ 32 ∷ (decimal n ++ 10 ∷ x))
-three_right k m n x = simp append_assoc
-
 pub two_tell : (m n k l : ℕ) (d : ℕ) (x y : List ℕ) → IsNumber m → IsNumber n → IsNumber k → IsNumber l → is_ascii_digit d ≡ false → decimal m ++ d ∷ (decimal n ++ 10 ∷ x) ≡ decimal k ++ d ∷ (decimal l ++ 10 ∷ y) → (m ≡ k) × (n ≡ l)
 two_tell m n k l d x y one two three four not_digit same =
     let first = number_tells m k d d _ _ one three not_digit not_digit same in

@@ -5,7 +5,7 @@ use Rattle.command_text.specs.declared.item.Item.{Item}
 use Rattle.command_text.specs.declared.item.Item.TheVariants as item
 use Rattle.command_text.specs.declared.fault.TextFault.{TextFault}
 use Rattle.command_text.specs.declared.fault.TextFault.TheVariants.{Source, BadStream, Budget, OutOfMemory}
-use Rattle.command_text.specs.declared.line.Line.TheVariants as line
+use Rattle.command_text.specs.declared.line.Said.TheVariants as line
 use Rattle.command_text.specs.declared.line_end.LineEnd.{LineEnd}
 use Rattle.command_text.specs.declared.line_end.LineEnd.TheVariants.{At, TooLong, Missing}
 use Rattle.command_text.specs.Lines.{line_in}

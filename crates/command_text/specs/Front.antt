@@ -4,8 +4,8 @@ use Rattle.tree_model.specs.declared.command.Command.TheVariants as command
 use Rattle.tree_model.specs.declared.refusal.Refusal.TheVariants.{BadName}
 use Rattle.command_text.specs.declared.item.Item.{Item}
 use Rattle.command_text.specs.declared.item.Item.TheVariants as item
-use Rattle.command_text.specs.declared.line.Line.{Line}
-use Rattle.command_text.specs.declared.line.Line.TheVariants as line
+use Rattle.command_text.specs.declared.line.Said.{Said}
+use Rattle.command_text.specs.declared.line.Said.TheVariants as line
 use Rattle.command_text.specs.Lines.{line_in}
 
 -- an item with how many bytes spell it, what begins no item however it goes on, or less than an item
@@ -30,7 +30,7 @@ front_of_data path offset count line_count bytes =
     else Wrong
 
 -- a line that takes so many bytes with its newline, and the bytes behind it
-abbrev pub front_of_line : Line → ℕ → List ℕ → Front
+abbrev pub front_of_line : Said → ℕ → List ℕ → Front
 front_of_line (line.Command command) line_count bytes = Whole (item.Command command) line_count
 front_of_line (line.Refused refusal) line_count bytes = Whole (item.Refused refusal) line_count
 front_of_line (line.Write path offset count) line_count bytes = front_of_data path offset count line_count bytes

@@ -16,8 +16,6 @@ mod print;
 mod reader;
 mod replies;
 mod reply;
-#[cfg(test)]
-mod tests;
 mod text_line;
 mod verb;
 

@@ -13,7 +13,7 @@ use tree_model::{Command, Path, ReadLength, Refusal};
 
 /// What a line says.
 #[derive(Drop)]
-pub(crate) enum Line {
+pub(crate) enum Said {
     /// A command by itself.
     Command(Command),
     /// It is no command, or names no path.
@@ -27,7 +27,7 @@ pub(crate) enum Line {
 }
 
 /// What a line says, without its newline.
-pub(crate) fn line_in(alloc: Global, line: &[u8]) -> Result<Line, AllocError>
+pub(crate) fn line_in(alloc: Global, line: &[u8]) -> Result<Said, AllocError>
     ensures { IfOk result (λ said. said ≡ line_in line.now) }
 {
     let (verb, rest) = cut(line, b' ');
@@ -37,7 +37,7 @@ pub(crate) fn line_in(alloc: Global, line: &[u8]) -> Result<Line, AllocError>
     }
 }
 
-fn line_with_path(alloc: Global, verb: &[u8], rest: &[u8]) -> Result<Line, AllocError>
+fn line_with_path(alloc: Global, verb: &[u8], rest: &[u8]) -> Result<Said, AllocError>
     ensures { IfOk result (λ said. said ≡ line_of_parts (verb.now ∷ slice_split (λ b. b == 32) rest.now)) }
 {
     let (path, rest) = cut(rest, b' ');
@@ -50,7 +50,7 @@ fn line_with_path(alloc: Global, verb: &[u8], rest: &[u8]) -> Result<Line, Alloc
     }
 }
 
-fn line_with_field(alloc: Global, verb: &[u8], path: &[u8], rest: &[u8]) -> Result<Line, AllocError>
+fn line_with_field(alloc: Global, verb: &[u8], path: &[u8], rest: &[u8]) -> Result<Said, AllocError>
     requires { 0 < length path.now }
     ensures { IfOk result (λ said. said ≡ line_of_parts (verb.now ∷ path.now ∷ slice_split (λ b. b == 32) rest.now)) }
 {
@@ -70,7 +70,7 @@ fn line_with_count(
     path: &[u8],
     offset: &[u8],
     rest: &[u8],
-) -> Result<Line, AllocError>
+) -> Result<Said, AllocError>
     requires path { 0 < length path.now }
     requires offset { 0 < length offset.now }
     ensures { IfOk result (λ said. said ≡ line_of_parts (verb.now ∷ path.now ∷ offset.now ∷ slice_split (λ b. b == 32) rest.now)) }
@@ -83,29 +83,29 @@ fn line_with_count(
 }
 
 /// It is no line of a command.
-fn bad_command() -> Line
+fn bad_command() -> Said
     ensures { result ≡ bad_command }
 {
-    Line::Refused(Refusal::BadCommand)
+    Said::Refused(Refusal::BadCommand)
 }
 
-fn bare_line(verb: &[u8]) -> Line
+fn bare_line(verb: &[u8]) -> Said
     ensures { result ≡ bare_line verb.now }
 {
     match verb {
-        b"space" => Line::Command(Command::Space),
-        b"checkpoint" => Line::Command(Command::Checkpoint),
-        b"end" => Line::Command(Command::End),
+        b"space" => Said::Command(Command::Space),
+        b"checkpoint" => Said::Command(Command::Checkpoint),
+        b"end" => Said::Command(Command::End),
         _ => bad_command(),
     }
 }
 
-fn path_line(alloc: Global, verb: &[u8], field: &[u8]) -> Result<Line, AllocError>
+fn path_line(alloc: Global, verb: &[u8], field: &[u8]) -> Result<Said, AllocError>
     ensures { IfOk result (λ said. said ≡ path_line (path_verb verb.now) field.now) }
 {
     match PathVerb::from_field(verb) {
         Some(verb) => match path(alloc, field)? {
-            Some(path) => Ok(Line::Command(verb.command(path))),
+            Some(path) => Ok(Said::Command(verb.command(path))),
             None => Ok(bad_name()),
         },
         None => Ok(bad_command()),
@@ -113,13 +113,13 @@ fn path_line(alloc: Global, verb: &[u8], field: &[u8]) -> Result<Line, AllocErro
 }
 
 /// The path is none.
-fn bad_name() -> Line
+fn bad_name() -> Said
     ensures { result ≡ bad_name }
 {
-    Line::Refused(Refusal::BadName)
+    Said::Refused(Refusal::BadName)
 }
 
-fn two_line(alloc: Global, verb: &[u8], path: &[u8], field: &[u8]) -> Result<Line, AllocError>
+fn two_line(alloc: Global, verb: &[u8], path: &[u8], field: &[u8]) -> Result<Said, AllocError>
     ensures { IfOk result (λ said. said ≡ two_line verb.now path.now field.now) }
 {
     if verb == b"truncate".as_slice() {
@@ -131,26 +131,26 @@ fn two_line(alloc: Global, verb: &[u8], path: &[u8], field: &[u8]) -> Result<Lin
     Ok(bad_command())
 }
 
-fn truncate_line(alloc: Global, field: &[u8], size: Option<u64>) -> Result<Line, AllocError>
+fn truncate_line(alloc: Global, field: &[u8], size: Option<u64>) -> Result<Said, AllocError>
     ensures { IfOk result (λ said. said ≡ truncate_line field.now size) }
 {
     let Some(size) = size else {
         return Ok(bad_command());
     };
     match path(alloc, field)? {
-        Some(path) => Ok(Line::Command(Command::Truncate { path, size })),
+        Some(path) => Ok(Said::Command(Command::Truncate { path, size })),
         None => Ok(bad_name()),
     }
 }
 
-fn rename_line(alloc: Global, from: &[u8], to: &[u8]) -> Result<Line, AllocError>
+fn rename_line(alloc: Global, from: &[u8], to: &[u8]) -> Result<Said, AllocError>
     ensures { IfOk result (λ said. said ≡ rename_line (path_in from.now) (path_in to.now)) }
 {
     let Some(from) = path(alloc, from)? else {
         return Ok(bad_name());
     };
     match path(alloc, to)? {
-        Some(to) => Ok(Line::Command(Command::Rename { from, to })),
+        Some(to) => Ok(Said::Command(Command::Rename { from, to })),
         None => Ok(bad_name()),
     }
 }
@@ -161,7 +161,7 @@ fn three_line(
     path: &[u8],
     offset: &[u8],
     count: &[u8],
-) -> Result<Line, AllocError>
+) -> Result<Said, AllocError>
     ensures { IfOk result (λ said. said ≡ three_line verb.now path.now offset.now count.now) }
 {
     if verb == b"read".as_slice() {
@@ -178,14 +178,14 @@ fn read_line(
     field: &[u8],
     offset: Option<u64>,
     count: Option<ReadLength>,
-) -> Result<Line, AllocError>
+) -> Result<Said, AllocError>
     ensures { IfOk result (λ said. said ≡ read_line field.now offset count) }
 {
     let (Some(offset), Some(count)) = (offset, count) else {
         return Ok(bad_command());
     };
     match path(alloc, field)? {
-        Some(path) => Ok(Line::Command(Command::Read {
+        Some(path) => Ok(Said::Command(Command::Read {
             path,
             offset,
             length: count,
@@ -199,11 +199,11 @@ fn write_line(
     field: &[u8],
     offset: Option<u64>,
     count: Option<ReadLength>,
-) -> Result<Line, AllocError>
+) -> Result<Said, AllocError>
     ensures { IfOk result (λ said. said ≡ write_line field.now offset count) }
 {
     match (offset, count) {
-        (Some(offset), Some(count)) => Ok(Line::Write {
+        (Some(offset), Some(count)) => Ok(Said::Write {
             path: path(alloc, field)?,
             offset,
             count,

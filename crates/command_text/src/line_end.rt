@@ -8,7 +8,7 @@ ghost use Rattle.command_text.specs.declared.line_end.LineEnd.TheVariants.{Missi
 pub(crate) const LONGEST_LINE: usize = 8_192;
 
 /// What the end of the first line is.
-#[derive(Clone, Copy, Debug, PartialEq, Eq)]
+#[derive(Clone, Copy)]
 pub(crate) enum LineEnd {
     /// The place of its newline.
     At(usize),

@@ -53,7 +53,15 @@ fn names(alloc: Global, field: &[u8]) -> Result<Option<NameList>, AllocError>
 fn name(alloc: Global, part: &[u8]) -> Result<Option<Name>, AllocError>
     ensures { IfOk result (λ name. let bytes = percent_decode part.now in name ≡ (if is_name bytes then Some bytes else None)) }
 {
+    let bytes = decoded(alloc, part)?;
+    Ok(Name::new(&bytes).ok())
+}
+
+/// The bytes of a part: `%` and two hexadecimal digits are one byte.
+fn decoded(alloc: Global, part: &[u8]) -> Result<Vec<u8>, AllocError>
+    ensures { IfOk result (λ bytes. bytes.items ≡ percent_decode part.now) }
+{
     let mut bytes = Vec::new(alloc);
     percent_decode(part).append_to(&mut bytes)?;
-    Ok(Name::new(&bytes).ok())
+    Ok(bytes)
 }

@@ -51,10 +51,42 @@ fn push_number(text: &mut String, number: u64) -> Result<(), AllocError>
 
 fn push_on_path(text: &mut String, verb: &str, path: &Path) -> Result<(), AllocError>
     ensures path { OnOk result (IsCommandPath path.now) }
-    ensures text { OnOk result (string_bytes text.new ≡ string_bytes text.old ++ verb.now ++ path_spelling path.now) }
+    ensures text { OnOk result (string_bytes text.new ≡ string_bytes text.old ++ (verb.now ++ path_spelling path.now)) }
 {
     text.push_str(verb)?;
     push_path(text, path)
+}
+
+fn push_sized(text: &mut String, verb: &str, path: &Path, size: u64) -> Result<(), AllocError>
+    ensures path { OnOk result (IsCommandPath path.now) }
+    ensures text { OnOk result (string_bytes text.new ≡ string_bytes text.old ++ (verb.now ++ path_spelling path.now ++ number_spelling size)) }
+{
+    push_on_path(text, verb, path)?;
+    push_number(text, size)
+}
+
+/// Appends a verb, a path, and a part of its file: so many bytes from an offset on.
+fn push_part(
+    text: &mut String,
+    verb: &str,
+    path: &Path,
+    offset: u64,
+    count: u64,
+) -> Result<(), AllocError>
+    ensures path { OnOk result (IsCommandPath path.now) }
+    ensures text { OnOk result (string_bytes text.new ≡ string_bytes text.old ++ (verb.now ++ path_spelling path.now ++ number_spelling offset ++ number_spelling count)) }
+{
+    push_sized(text, verb, path, offset)?;
+    push_number(text, count)
+}
+
+fn push_both(text: &mut String, from: &Path, to: &Path) -> Result<(), AllocError>
+    ensures from { OnOk result (IsCommandPath from.now) }
+    ensures to { OnOk result (IsCommandPath to.now) }
+    ensures text { OnOk result (string_bytes text.new ≡ string_bytes text.old ++ (codes "rename " ++ path_spelling from.now ++ codes " " ++ path_spelling to.now)) }
+{
+    push_on_path(text, "rename ", from)?;
+    push_on_path(text, " ", to)
 }
 
 /// Appends the line of a command without its newline.
@@ -69,29 +101,15 @@ fn push_line(text: &mut String, command: &Command) -> Result<(), AllocError>
             path,
             offset,
             bytes,
-        } => {
-            push_on_path(text, "write ", path)?;
-            push_number(text, *offset)?;
-            push_number(text, bytes.as_slice().len() as u64)
-        }
-        Command::Truncate { path, size } => {
-            push_on_path(text, "truncate ", path)?;
-            push_number(text, *size)
-        }
+        } => push_part(text, "write ", path, *offset, bytes.as_slice().len() as u64),
+        Command::Truncate { path, size } => push_sized(text, "truncate ", path, *size),
         Command::Remove { path } => push_on_path(text, "remove ", path),
-        Command::Rename { from, to } => {
-            push_on_path(text, "rename ", from)?;
-            push_on_path(text, " ", to)
-        }
+        Command::Rename { from, to } => push_both(text, from, to),
         Command::Read {
             path,
             offset,
             length,
-        } => {
-            push_on_path(text, "read ", path)?;
-            push_number(text, *offset)?;
-            push_number(text, length.get() as u64)
-        }
+        } => push_part(text, "read ", path, *offset, length.get() as u64),
         Command::List { path } => push_on_path(text, "list ", path),
         Command::Stat { path } => push_on_path(text, "stat ", path),
         Command::Layout { path } => push_on_path(text, "layout ", path),

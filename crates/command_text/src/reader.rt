@@ -5,7 +5,7 @@ ghost use Rattle.command_text.specs.Text.{is_end};
 ghost use Rattle.command_text.specs.declared.fault.TextFault.TheVariants.{Source, BadStream, Budget, OutOfMemory};
 
 use crate::held::Held;
-use crate::line::{Line, line_in};
+use crate::line::{Said, line_in};
 use crate::line_end::{LineEnd, line_end};
 use crate::{Item, TextFault};
 use std::alloc::{AllocError, Global};
@@ -218,16 +218,16 @@ impl CommandReader {
             None => return Ok(Item::Ended),
         };
         match line_in(self.alloc, &self.held.as_slice()[..end]) {
-            Ok(Line::Command(command)) => {
+            Ok(Said::Command(command)) => {
                 self.held.skip(end + 1);
                 Ok(Item::Command(command))
             }
-            Ok(Line::Refused(refusal)) => {
+            Ok(Said::Refused(refusal)) => {
                 self.held.skip(end + 1);
                 Ok(Item::Refused(refusal))
             }
             Ok(
-                Line::Write {
+                Said::Write {
                     path,
                     offset,
                     count,

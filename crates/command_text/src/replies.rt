@@ -19,6 +19,12 @@ use std::alloc::{AllocError, Global};
 use tree_model::{Answer, Line, MOST_BYTES, Piece, Reply, Report};
 use wire_ends::{PutBuffer, Sink, SinkFault};
 
+/// Room for a line, and for the bytes of a block.
+const BLOCK_ROOM: usize = LINE_ROOM + 4_096;
+
+/// Room for a line or two.
+const SHORT_ROOM: usize = 2 * LINE_ROOM;
+
 /// Room for a line, and for as many bytes as a read or a write has at most.
 pub(crate) const TEXT_ROOM: usize = LONGEST_LINE + MOST_BYTES;
 
@@ -204,13 +210,23 @@ fn put_answer<W: Sink, const ROOM: usize>(
     }
 }
 
-/// Puts an answer that is one line, or the text of a list: a list for which there is no room is put as it is.
+/// Puts an answer of a few bytes, or the text of a list.
 fn put_short<W: Sink>(sink: &mut W, answer: &Answer, list: &str) -> Result<(), SinkFault>
     requires { IsListText answer.now.reply list.now }
     ensures text { PutsText (W.seen sink.old) (W.seen sink.new) (answer_text answer.now) result }
     ensures cause { HasCause (W.seen sink.old).faults (W.seen sink.new).faults result }
 {
-    let mut buffer = PutBuffer::<LINE_ROOM>::new();
+    let mut buffer = PutBuffer::<SHORT_ROOM>::new();
+    put_answer(&mut buffer, sink, answer, list)
+}
+
+/// Puts an answer that has no more bytes than a line and a block.
+fn put_middling<W: Sink>(sink: &mut W, answer: &Answer, list: &str) -> Result<(), SinkFault>
+    requires { IsListText answer.now.reply list.now }
+    ensures text { PutsText (W.seen sink.old) (W.seen sink.new) (answer_text answer.now) result }
+    ensures cause { HasCause (W.seen sink.old).faults (W.seen sink.new).faults result }
+{
+    let mut buffer = PutBuffer::<BLOCK_ROOM>::new();
     put_answer(&mut buffer, sink, answer, list)
 }
 
@@ -224,12 +240,34 @@ fn put_long<W: Sink>(sink: &mut W, answer: &Answer, list: &str) -> Result<(), Si
     put_answer(&mut buffer, sink, answer, list)
 }
 
-/// Whether an answer is one line, or the text of a list.
-fn is_line_or_list(answer: &Answer) -> bool {
-    match answer.reply {
-        Reply::Data(_) | Reply::Layout(_) => false,
-        _ => answer.report.is_none(),
+/// Puts an answer by way of the smallest buffer that has room for it, or of the largest. A list by itself needs none: it is put as it is.
+fn put_sized<W: Sink>(sink: &mut W, answer: &Answer, list: &str) -> Result<(), SinkFault>
+    requires { IsListText answer.now.reply list.now }
+    ensures text { PutsText (W.seen sink.old) (W.seen sink.new) (answer_text answer.now) result }
+    ensures cause { HasCause (W.seen sink.old).faults (W.seen sink.new).faults result }
+{
+    let most = most_bytes(answer, list);
+    if most <= SHORT_ROOM {
+        put_short(sink, answer, list)
+    } else if most <= BLOCK_ROOM {
+        put_middling(sink, answer, list)
+    } else {
+        put_long(sink, answer, list)
     }
+}
+
+/// At most how many bytes an answer has. The text of a list counts only behind a report.
+fn most_bytes(answer: &Answer, list: &str) -> usize {
+    let (lines, list) = match &answer.report {
+        Some(report) => (report.lines.as_slice().len().saturating_add(2), list.len()),
+        None => (1, 0),
+    };
+    let rest = match &answer.reply {
+        Reply::Data(bytes) => bytes.as_slice().len(),
+        Reply::Layout(pieces) => pieces.as_slice().len().saturating_mul(LINE_ROOM),
+        _ => list,
+    };
+    lines.saturating_mul(LINE_ROOM).saturating_add(rest)
 }
 
 /// The text of the list in a reply, which is empty where it has none.
@@ -257,12 +295,7 @@ pub fn write_reply<W: Sink>(alloc: Global, sink: &mut W, answer: &Answer) -> Res
     let Ok(list) = list_text(alloc, &answer.reply) else {
         return Err(PutFault::OutOfMemory);
     };
-    let done = if is_line_or_list(answer) {
-        put_short(sink, answer, list.as_str())
-    } else {
-        put_long(sink, answer, list.as_str())
-    };
-    match done {
+    match put_sized(sink, answer, list.as_str()) {
         Ok(()) => Ok(()),
         Err(SinkFault) => Err(PutFault::Sink),
     }

@@ -1,11 +1,11 @@
 //! Verbs of lines that have a path and nothing else.
 ghost use Rattle.std.specs.Prelude.{◌≡◌};
-ghost use Rattle.command_text.specs.Lines.{path_verb, command_on};
+ghost use Rattle.command_text.specs.Lines.{path_verb, asking_verb, command_on};
 
 use tree_model::{Command, Path};
 
 /// The verb of a line that has a path and nothing else.
-#[derive(Clone, Copy, Debug, PartialEq, Eq)]
+#[derive(Clone, Copy)]
 pub(crate) enum PathVerb {
     Mkdir,
     Create,
@@ -23,6 +23,15 @@ impl PathVerb {
             b"mkdir" => Some(PathVerb::Mkdir),
             b"create" => Some(PathVerb::Create),
             b"remove" => Some(PathVerb::Remove),
+            _ => PathVerb::asking(field),
+        }
+    }
+
+    /// A verb that changes nothing.
+    fn asking(field: &[u8]) -> Option<PathVerb>
+        ensures { result ≡ asking_verb field.now }
+    {
+        match field {
             b"list" => Some(PathVerb::List),
             b"stat" => Some(PathVerb::Stat),
             b"layout" => Some(PathVerb::Layout),

@@ -1,6 +1,6 @@
 -- What is put in several calls.
 use Rattle.std.proofs.Common.{◌∙◌, ◌+◌, ◌++◌, ℕ, List, [], length, min, sym, ap, subst, append_assoc, arith}
-use Rattle.std.proofs.lemmas.List.{append-nil, take-append-le, take_all, take_min}
+use Rattle.std.proofs.lemmas.List.{append-nil, take-append-le, take_min}
 use Rattle.std.proofs.Math.Seq.{take-append-add}
 use Rattle.wire_ends.specs.Ends.{Output, Puts, PutsPart}
 
@@ -13,10 +13,6 @@ puts_both {old = old} {first = first} {second = second} one two = record {
   told = λ told. two.told (one.told told);
   appended = λ told. two.appended (one.told told) ∙ ap (λ (l : List ℕ). l ++ second) (one.appended told) ∙ append_assoc old.got first second;
 }
-
--- the whole is a part
-pub part_whole : {old new : Output} {bytes : List ℕ} → Puts old new bytes → PutsPart old new bytes
-part_whole {old} {new} {bytes} whole = record { count = length bytes; puts = subst (Puts old new) (sym (take_all (length bytes) bytes (omega arith))) whole }
 
 -- a part that is put behind a whole is a part of both
 pub part_behind : {old mid new : Output} {first second : List ℕ} → Puts old mid first → PutsPart mid new second → PutsPart old new (first ++ second)

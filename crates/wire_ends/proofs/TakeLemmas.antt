@@ -1,10 +1,7 @@
 -- What is taken in several calls.
-use Rattle.std.proofs.Common.{◌∙◌, ◌≡◌, ◌+◌, ◌++◌, ℕ, List, [], take, drop, refl, sym, ap, subst, append_assoc, IsTrue}
+use Rattle.std.proofs.Common.{◌∙◌, ◌≡◌, ◌+◌, ◌++◌, ℕ, List, [], take, drop, sym, ap, append_assoc, IsTrue}
 use Rattle.std.proofs.lemmas.List.{append-nil, take-append-drop, drop-drop}
 use Rattle.wire_ends.specs.Ends.{Input, Takes}
-
-pub takes_none : (source : Input) → Takes source source []
-takes_none source = record { told = λ told. told; next = λ told. refl }
 
 -- two pieces in a row are one
 pub takes_both : {old mid new : Input} {first second : List ℕ} → Takes old mid first → Takes mid new second → Takes old new (first ++ second)
@@ -12,10 +9,6 @@ takes_both {new = new} {first = first} {second = second} one two = record {
   told = λ told. two.told (one.told told);
   next = λ told. one.next told ∙ ap (λ (l : List ℕ). first ++ l) (two.next (one.told told)) ∙ sym (append_assoc first second new.left);
 }
-
--- a call that took nothing stands behind others
-pub takes_no_more : {old mid new : Input} {bytes : List ℕ} → Takes old mid bytes → Takes mid new [] → Takes old new bytes
-takes_no_more {old} {mid} {new} {bytes} one none = subst (Takes old new) (append-nil bytes) (takes_both one none)
 
 -- all that a source had was taken, if nothing is left
 pub takes_whole : {old new : Input} {bytes : List ℕ} → Takes old new bytes → IsTrue old.is_told → new.left ≡ [] → old.left ≡ bytes

@@ -10,8 +10,6 @@ mod source;
 mod std_sink;
 mod std_source;
 mod system_faults;
-#[cfg(test)]
-mod tests;
 
 pub use laws::{
     part_behind, part_of_more, passes_compose, passes_part, passes_whole, puts_compose,

@@ -7,6 +7,6 @@ use Rattle.command_text.proofs.path.name.Goals as goal
 
 pub returns : goal.returns
 returns c =
-    let decoded : c.deref.result.now ≡ percent_decode c.args.part.now = cc (c.in_ok-append_to.ensures.ok, c.deref.ensures.value, c.new-bytes.ensures.items, c.percent_decode.ensures.bytes) in
+    let decoded : c.deref.result.now ≡ percent_decode c.args.part.now = c.deref.ensures.value ∙ c.in_ok-bytes.ensures in
     let made = made_name c.deref.result.now c.new.result c.new.ensures.valid c.new.ensures.value in
     subst (λ (b : List ℕ). ◌≡◌ {A = Option (List ℕ)} c.ok.result (if is_name b then Some b else None)) decoded (c.ok.ensures.value ∙ made)

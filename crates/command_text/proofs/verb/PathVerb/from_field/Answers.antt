@@ -13,8 +13,3 @@ pub returns-in-remove : goal.returns-in-remove
 returns-in-remove c =
     let e : c.args.field.now ≡ codes "remove" = text_from_reads c.args.field.now (codes "remove") (omega arith) (search rules) in
     sym (ap path_verb e)
-
-pub returns-in-layout : goal.returns-in-layout
-returns-in-layout c =
-    let e : c.args.field.now ≡ codes "layout" = text_from_reads c.args.field.now (codes "layout") (omega arith) (search rules) in
-    sym (ap path_verb e)

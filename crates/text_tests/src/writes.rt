@@ -1,0 +1,140 @@
+//! In how many writes an answer goes out.
+use crate::answers::{laid_out, listed, reported};
+use command_text::write_reply;
+use std::alloc::Global;
+use std::io;
+use std::io::Write;
+use std::test::Fail;
+use tree_model::{Answer, Entry, EntryList, Kind, Piece, PieceList, Refusal, Reply};
+use vol_numbers::{ByteList, Name};
+use wire_ends::StdSink;
+
+/// Takes all of each write, and counts them and their bytes, and those of fewer than 65,536 bytes.
+#[derive(Drop)]
+struct Counts {
+    writes: usize,
+    bytes: usize,
+    short: usize,
+}
+
+impl Write for Counts {
+    fn write(&mut self, buf: &[u8]) -> io::Result<usize> {
+        self.writes = self.writes.saturating_add(1);
+        self.bytes = self.bytes.saturating_add(buf.len());
+        if buf.len() < 65_536 {
+            self.short = self.short.saturating_add(1);
+        }
+        Ok(buf.len())
+    }
+
+    fn flush(&mut self) -> io::Result<()> {
+        Ok(())
+    }
+}
+
+/// How many writes an answer is, how many bytes they have, and how many of them have fewer than 65,536.
+fn writes_of(alloc: Global, answer: &Answer) -> Result<(usize, usize, usize), Fail> {
+    let mut sink = StdSink::new(Counts {
+        writes: 0,
+        bytes: 0,
+        short: 0,
+    });
+    write_reply(alloc, &mut sink, answer)?;
+    let counts = sink.writer();
+    Ok((counts.writes, counts.bytes, counts.short))
+}
+
+/// Whether a reply is one write of so many bytes.
+fn is_one(alloc: Global, reply: Reply, count: usize) -> Result<bool, Fail> {
+    let answer = Answer {
+        report: None,
+        reply,
+    };
+    let (writes, bytes, _) = writes_of(alloc, &answer)?;
+    Ok(writes == 1 && bytes == count)
+}
+
+/// How many bytes are read, and how many their answer has.
+const DATA: &[(usize, usize)] = &[
+    (0, 8),
+    (1, 9),
+    (5, 13),
+    (160, 170),
+    (161, 171),
+    (4_095, 4_106),
+    (4_096, 4_107),
+    (4_097, 4_108),
+    (65_536, 65_548),
+];
+
+fn data_are_one(alloc: Global) -> Result<bool, Fail> {
+    for row in DATA {
+        let data = ByteList::from_vec(vec![in alloc; b'x'; row.0]?);
+        if !is_one(alloc, Reply::Data(data), row.1)? {
+            return Ok(false);
+        }
+    }
+    Ok(true)
+}
+
+/// So many entries with names of 200 bytes.
+fn long_list(alloc: Global, count: usize) -> Result<Reply, Fail> {
+    let name = Name::new(&[b'n'; 200])?;
+    let entry = Entry {
+        kind: Kind::File,
+        number: 9,
+        name,
+    };
+    let entries = vec![in alloc; entry; count]?;
+    Ok(Reply::Entries(EntryList::from_vec(entries)))
+}
+
+/// So many pieces with lines of 10 bytes.
+fn long_layout(alloc: Global, count: usize) -> Result<Reply, Fail> {
+    let piece = Piece::Dirty {
+        place: 5,
+        length: 7,
+    };
+    let pieces = vec![in alloc; piece; count]?;
+    Ok(Reply::Layout(PieceList::from_vec(pieces)))
+}
+
+fn lists_are_one(alloc: Global) -> Result<bool, Fail> {
+    Ok(
+        is_one(alloc, listed(alloc)?, 32)?
+            && is_one(alloc, long_list(alloc, 1_000)?, 205_010)?
+            && is_one(alloc, laid_out(alloc)?, 31)?
+            && is_one(alloc, long_layout(alloc, 7_000)?, 70_012)?,
+    )
+}
+
+fn a_report_is_one(alloc: Global) -> Result<bool, Fail> {
+    let answer = reported(alloc)?;
+    let (writes, bytes, _) = writes_of(alloc, &answer)?;
+    Ok(writes == 1 && bytes == 87)
+}
+
+#[test]
+fn answers_are_one_write(rt: HostRuntime) -> Result<(), Fail> {
+    let alloc = rt.alloc();
+    assert!(rt; is_one(alloc, Reply::Done, 3)?);
+    assert!(rt; is_one(alloc, Reply::Refused(Refusal::BadName), 18)?);
+    assert!(rt; data_are_one(alloc)?);
+    assert!(rt; lists_are_one(alloc)?);
+    assert!(rt; a_report_is_one(alloc)?);
+    Ok(())
+}
+
+fn long_layout_is_three(alloc: Global) -> Result<bool, Fail> {
+    let answer = Answer {
+        report: None,
+        reply: long_layout(alloc, 20_000)?,
+    };
+    Ok(writes_of(alloc, &answer)? == (3, 200_013, 1))
+}
+
+#[test]
+fn long_layouts_are_long_writes(rt: HostRuntime) -> Result<(), Fail> {
+    assert!(rt; long_layout_is_three(rt.alloc())?);
+    Ok(())
+}
