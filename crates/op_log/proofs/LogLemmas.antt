@@ -63,10 +63,6 @@ has_logged Space has = absurd has
 has_logged Checkpoint has = absurd has
 has_logged End has = absurd has
 
-pub pushed : (xs ys : List Command) (x : Command) (b : Bool) → ys ≡ (if b then xs ++ x ∷ [] else xs) → b ≡ true → ys ≡ xs ++ x ∷ []
-pushed xs ys x true e is = e
-pushed xs ys x false e is = cc
-
 pub one_spelling : OneSpelling
 one_spelling image other at place c stands other_stands i lt = stands i lt ∙ sym (other_stands i lt)
 
