@@ -48,21 +48,6 @@ first_bad image first used number cs count holds none = record {
       none c last.0 (omega (arith, more.within, blocks_of-push cs c)) last.1;
 }
 
-pub has_logged : (c : Command) → HasRecord c → IsLogged c
-has_logged (Mkdir path) has = has.some
-has_logged (Create path) has = has.some
-has_logged (Write path offset bytes) has = (has.0.some, λ e. omega (arith, has.2, ap length e))
-has_logged (Truncate path size) has = has.0.some
-has_logged (Remove path) has = has.some
-has_logged (Rename from to) has = (has.0.some, has.1.some)
-has_logged (Read path offset length) has = absurd has
-has_logged (ListOf path) has = absurd has
-has_logged (Stat path) has = absurd has
-has_logged (Layout path) has = absurd has
-has_logged Space has = absurd has
-has_logged Checkpoint has = absurd has
-has_logged End has = absurd has
-
 pub one_spelling : OneSpelling
 one_spelling image other at place c stands other_stands i lt = stands i lt ∙ sym (other_stands i lt)
 

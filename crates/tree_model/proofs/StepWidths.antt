@@ -20,6 +20,7 @@ use Rattle.tree_model.specs.Shape.{IsTree, shape_of}
 use Rattle.tree_model.specs.Laws.{WidthsAreGreatest, NewDirectoriesAreEmpty}
 use Rattle.tree_model.proofs.Accepted.{with_ok, passed, there, walked, is_file, nothing}
 use Rattle.tree_model.proofs.AttemptLaws.{Accepts, after_all, put_at, ordered_put, ordered_moved}
+use Rattle.tree_model.proofs.ByteLaws.{length_resized}
 use Rattle.tree_model.proofs.EntryCounts.{total, total_is, one_itself, one_apart, put_most, put_least, put_same, without_most, below_most, other_most, none_total, few_entries}
 use Rattle.tree_model.proofs.Fronts.{tie, tie_is, tie_itself, test_fails}
 use Rattle.tree_model.proofs.Lookups.{without_at, moved_at, widened_other}
@@ -279,13 +280,10 @@ old_size tree path h node walk_ok bytes file =
     let stood : node_at tree path ≡ Some (record { number = node.number; content = File bytes }) = walked tree path node walk_ok ∙ ap (λ (c : Content). Some (record { number = node.number; content = c })) (is_file node.content bytes file) in
     h.sizes path node.number bytes stood
 
-resized_length : (bytes : List ℕ) (size : ℕ) → length (resized bytes size) ≡ size
-resized_length bytes size = grind (arith, common_steps)
-
 written_length : (bytes : List ℕ) (offset : ℕ) (given : List ℕ) (limit : ℕ) → length bytes ≤ limit → offset + length given ≤ limit → length (written bytes offset given) ≤ limit
 written_length bytes offset given limit was new =
     let is : length (written bytes offset given) ≡ (length (resized bytes offset) + length given) + (length bytes - (offset + length given)) = simp (length-append, length-drop) in
-    omega (arith, resized_length bytes offset)
+    omega (arith, length_resized bytes offset)
 
 fits_in : (limit size : ℕ) → nat_lt limit size ≡ false → size ≤ limit
 fits_in limit size e = grind (arith, nat_tests)
@@ -299,7 +297,7 @@ write_end tree path offset (b ∷ given) h node walk_ok bytes file v small =
 truncate_end : (tree : Tree) (path : Path) (size : ℕ) → IsTree tree → (node : Node) → walk tree path ≡ Ok node → (bytes : List ℕ) → bytes_of node.content ≡ Ok bytes
     → (v : ℕ) → refuse_if (nat_lt 4294967296 size) TooBig ≡ Ok v → Leaves tree (with_node tree path (record { number = node.number; content = File (resized bytes size) }))
 truncate_end tree path size h node walk_ok bytes file v small =
-    let short : length (resized bytes size) ≤ 4294967296 = omega (arith, resized_length bytes size, fits_in 4294967296 size (passed _ TooBig v small)) in
+    let short : length (resized bytes size) ≤ 4294967296 = omega (arith, length_resized bytes size, fits_in 4294967296 size (passed _ TooBig v small)) in
     file_end tree path (resized bytes size) h node walk_ok short
 
 remove_end : (tree : Tree) (path : Path) → IsTree tree → Leaves tree (without tree path)
