@@ -10,15 +10,6 @@ use Rattle.disk_model.proofs.Moments.{slice_get-set_other, slice_get-set_same, i
 use Rattle.op_log.specs.Record.{text_block}
 use Rattle.op_log.specs.Append.{IsOutside, ChangesWithin}
 
-pub changes_none : (first count : ℕ) (s : State) → ChangesWithin first count s s
-changes_none first count s = record {
-  as_long = refl;
-  others = λ k out. refl;
-  others_unsynced = λ k out. refl;
-  stay_unsynced = λ k is. is;
-  changed_unsynced = λ k is. refl;
-}
-
 pub is_among-included_same : (at : ℕ) (ns : List ℕ) → is_among (included at ns) at ≡ true
 is_among-included_same at [] = grind (arith, nat_tests)
 is_among-included_same at (n ∷ ns) = let rest = is_among-included_same at ns in grind (arith, nat_tests, rest)

@@ -14,7 +14,8 @@ put_more len k bytes more long room is zeros =
     let behind : drop len bytes ≡ replicate (4096 - length front) 0 = ap (λ (l : List ℕ). drop len l) zeros ∙ drop_at front (replicate (4096 - length front) 0) len front_len in
     let rest : drop k (drop len bytes) ≡ replicate (4096 - length front - k) 0 = ap (λ (l : List ℕ). drop k l) behind ∙ drop-replicate k (4096 - length front) 0 in
     let same : 4096 - length front - k ≡ 4096 - length (front ++ more) = omega (arith, length-append front more) in
-    ap (λ (l : List ℕ). front ++ (more ++ l)) (rest ∙ ap (λ (n : ℕ). replicate n 0) same) ∙ sym (append_assoc front more (replicate (4096 - length (front ++ more)) 0))
+    let zeros_left : drop k (drop len bytes) ≡ replicate (4096 - length (front ++ more)) 0 = rest ∙ ap (λ (n : ℕ). replicate n 0) same in
+    ap (λ (l : List ℕ). front ++ (more ++ l)) {y = replicate (4096 - length (front ++ more)) 0} zeros_left ∙ sym (append_assoc front more (replicate (4096 - length (front ++ more)) 0))
 
 -- the parts of a header, one behind the other
 pub header_written : (d0 d1 d2 d3 d4 d5 : List ℕ) (kind path_length number rest_length : ℕ) → d0 ≡ [] → d1 ≡ d0 ++ (kind ∷ 0 ∷ 0 ∷ 0 ∷ []) → d2 ≡ d1 ++ little_bytes 4 path_length

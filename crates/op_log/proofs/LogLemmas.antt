@@ -1,6 +1,6 @@
 -- One record more in a log.
-use Rattle.std.proofs.Common.{◌≡◌, ◌∙◌, ◌+◌, ◌-◌, ◌<◌, ◌≤◌, ⊎_elim, ℕ, zero, suc, Bool, true, false, List, [], ◌∷◌, ◌++◌, length, take, get_or, refl, sym, ap, subst, arith, add-zero}
-use Rattle.std.specs.Prelude.{if◌then◌else◌, slice_get}
+use Rattle.std.proofs.Common.{◌≡◌, ◌∙◌, ◌+◌, ◌-◌, ◌<◌, ◌≤◌, ⊎_elim, ℕ, zero, suc, List, [], ◌∷◌, ◌++◌, length, take, get_or, refl, sym, ap, subst, arith, add-zero}
+use Rattle.std.specs.Prelude.{slice_get}
 use Rattle.std.proofs.lemmas.Bool.{cases_lt}
 use Rattle.vol_numbers.specs.declared.block.Block.{Block}
 use Rattle.tree_model.specs.declared.command.Command.{Command}
@@ -47,25 +47,6 @@ first_bad image first used number cs count holds none = record {
       let last = records_stand-last image first cs c more.stand in
       none c last.0 (omega (arith, more.within, blocks_of-push cs c)) last.1;
 }
-
-pub has_logged : (c : Command) → HasRecord c → IsLogged c
-has_logged (Mkdir path) has = has.some
-has_logged (Create path) has = has.some
-has_logged (Write path offset bytes) has = (has.0.some, λ e. omega (arith, has.2, ap length e))
-has_logged (Truncate path size) has = has.0.some
-has_logged (Remove path) has = has.some
-has_logged (Rename from to) has = (has.0.some, has.1.some)
-has_logged (Read path offset length) has = absurd has
-has_logged (ListOf path) has = absurd has
-has_logged (Stat path) has = absurd has
-has_logged (Layout path) has = absurd has
-has_logged Space has = absurd has
-has_logged Checkpoint has = absurd has
-has_logged End has = absurd has
-
-pub pushed : (xs ys : List Command) (x : Command) (b : Bool) → ys ≡ (if b then xs ++ x ∷ [] else xs) → b ≡ true → ys ≡ xs ++ x ∷ []
-pushed xs ys x true e is = e
-pushed xs ys x false e is = cc
 
 pub one_spelling : OneSpelling
 one_spelling image other at place c stands other_stands i lt = stands i lt ∙ sym (other_stands i lt)

@@ -67,9 +67,6 @@ pub record Left (names path : Path) (rest : List ℕ) : Type 0 where
   pub named : All IsName later
   pub bytes : path_bytes later ≡ rest
 
-pub left_start : (path : Path) (bytes : List ℕ) → All IsName path → path_bytes path ≡ bytes → Left [] path bytes
-left_start path bytes named e = record { later = path; is = refl; named = named; bytes = e }
-
 more_later : (names path later : Path) (rest name : List ℕ) → path ≡ names ++ later → All IsName later → path_bytes later ≡ rest → 0 < length rest
     → ((n : List ℕ) (p : Path) → IsName n → path_bytes (n ∷ p) ≡ rest → ◌≡◌ {A = Option (List ℕ)} (Some name) (Some n)) → Left (names ++ name ∷ []) path (drop (1 + length name) rest)
 more_later names path [] rest name is named e some first = absurd (omega (arith, ap length e))

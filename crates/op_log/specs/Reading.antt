@@ -1,5 +1,5 @@
 -- A record as it is read.
-use Rattle.std.specs.Prelude.{◌≡◌, ◌<◌, ◌≤◌, ℕ, ◌+◌, ◌*◌, List, length, take, drop, slice_index, slice_get, Some}
+use Rattle.std.specs.Prelude.{◌≡◌, ◌<◌, ◌≤◌, ℕ, ◌+◌, ◌*◌, Bool, IsTrue, List, [], ◌∷◌, ◌++◌, length, take, drop, slice_index, slice_get, Some}
 use Rattle.byteorder.specs.Endian.{little_number}
 use Rattle.vol_numbers.specs.declared.block.Block.{Block}
 use Rattle.tree_model.specs.declared.command.Command.{Command}
@@ -55,3 +55,12 @@ pub record IsWhole (bytes : List ℕ) (left : ℕ) : Type 0 where
 -- no record of at most so many blocks stands from this block on
 abbrev pub NoRecordStands : List Block → ℕ → ℕ → Type 0
 NoRecordStands image at left = (c : Command) → HasRecord c → record_blocks c ≤ left → RecordStands image at c → ⊥
+
+-- the command of a record that stands from this block on came behind the others, and its record takes so many blocks, of at most so many that are left
+pub record GainsRecord (tells : Bool) (image : List Block) (at left : ℕ) (old new : List Command) (count : ℕ) : Type 0 where
+  pub command : Command
+  pub gained : new ≡ old ++ command ∷ []
+  pub has_record : HasRecord command
+  pub counted : count ≡ record_blocks command
+  pub within : count ≤ left
+  pub stands : IsTrue tells → RecordStands image at command

@@ -27,10 +27,19 @@ pub(crate) fn decode(alloc: Global, bytes: &[u8]) -> Result<Option<Command>, All
     let Some(command) = command_of(alloc, head.kind, head.number, path, rest)? else {
         return Ok(None);
     };
+    Ok(if_spelled(command, bytes))
+}
+
+/// The command, if these bytes are those of its record.
+fn if_spelled(command: Command, bytes: &[u8]) -> Option<Command>
+    requires { IsLogged command }
+    ensures found { IfSome result (λ c. HasRecord c × Spells c bytes.now) }
+    ensures none { IfNone result (Spells command bytes.now → ⊥) }
+{
     if spells(&command, bytes) {
-        Ok(Some(command))
+        Some(command)
     } else {
-        Ok(None)
+        None
     }
 }
 
@@ -120,7 +129,20 @@ fn is_block(block: &Block, i: u32, bytes: &[u8]) -> bool
     requires { 4096 * i + 4096 ≤ length bytes.now }
     ensures { IsTrue result ↔ (take 4096 (drop (4096 * i) bytes.now) ≡ block.now.bytes) }
 {
+    is_same(part(bytes, i), &block.bytes)
+}
+
+/// The bytes of the i-th block.
+fn part(bytes: &[u8], i: u32) -> &[u8]
+    requires { 4096 * i + 4096 ≤ length bytes.now }
+    ensures { result.now ≡ take 4096 (drop (4096 * i) bytes.now) }
+{
     let from = BLOCK_SIZE * i as usize;
-    let part = &bytes[from..from + BLOCK_SIZE];
-    part == block.bytes.as_slice()
+    &bytes[from..from + BLOCK_SIZE]
+}
+
+fn is_same(a: &[u8], b: &[u8]) -> bool
+    ensures { IsTrue result ↔ (a.now ≡ b.now) }
+{
+    a == b
 }

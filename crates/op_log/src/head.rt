@@ -1,7 +1,4 @@
 //! The first bytes of a record as they stand, before any rule.
-ghost use Rattle.std.specs.Prelude.{◌≡◌, ◌≤◌, ◌+◌, length, drop};
-ghost use Rattle.byteorder.specs.Endian.{little_number};
-
 use byteorder::{ByteOrder, LittleEndian};
 
 /// The kind of a record, the lengths of its two parts, and its number.
@@ -24,9 +21,9 @@ impl Head {
     {
         Head {
             kind: bytes[0],
-            path_len: u32_at(bytes, 4),
-            number: u64_at(bytes, 8),
-            rest_len: u32_at(bytes, 16),
+            path_len: LittleEndian::read_u32(&bytes[4..]),
+            number: LittleEndian::read_u64(&bytes[8..]),
+            rest_len: LittleEndian::read_u32(&bytes[16..]),
         }
     }
 
@@ -43,18 +40,4 @@ impl Head {
         }
         Some((24 + self.path_len + self.rest_len).div_ceil(4_096))
     }
-}
-
-fn u32_at(bytes: &[u8], at: usize) -> u32
-    requires { at + 4 ≤ length bytes.now }
-    ensures { result ≡ little_number 4 (drop at bytes.now) }
-{
-    LittleEndian::read_u32(&bytes[at..])
-}
-
-fn u64_at(bytes: &[u8], at: usize) -> u64
-    requires { at + 8 ≤ length bytes.now }
-    ensures { result ≡ little_number 8 (drop at bytes.now) }
-{
-    LittleEndian::read_u64(&bytes[at..])
 }

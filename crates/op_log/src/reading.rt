@@ -8,8 +8,8 @@ ghost use Rattle.op_log.specs.Log.{HoldsRecords, IsFirstBad, blocks_of};
 ghost use Rattle.op_log.specs.Record.{HasRecord};
 
 use crate::fault::ReadFault;
-use crate::record_reading::next_record;
-use crate::{CommandList, LogFault, record_blocks};
+use crate::record_reading::push_next;
+use crate::{CommandList, LogFault};
 use disk_model::Disk;
 use root_switch::RootBody;
 use std::alloc::Global;
@@ -43,15 +43,12 @@ pub fn read_all<D: Disk>(
     let mut commands = Vec::new(alloc);
     let mut used = 0;
     for i in 0..body.records {
-        let command = match next_record(alloc, disk, first + used, body.log_used - used) {
-            Ok(Some(command)) => command,
+        let left = body.log_used - used;
+        match push_next(alloc, disk, first + used, left, &mut commands) {
+            Ok(Some(count)) => used += count,
             Ok(None) => return Err(LogFault::BadRecord(i)),
             Err(ReadFault::Device) => return Err(LogFault::Device),
             Err(ReadFault::OutOfMemory) => return Err(LogFault::OutOfMemory),
-        };
-        used += record_blocks(&command);
-        if commands.push(command).is_err() {
-            return Err(LogFault::OutOfMemory);
         }
     }
     Ok(CommandList::from_vec(commands))

@@ -1,21 +1,62 @@
 //! Reads one record.
-ghost use Rattle.std.specs.Prelude.{◌≡◌, ◌<◌, ◌≤◌, ◌+◌, ◌*◌, IfOk, OnOk, IfSome, IfNone, IsTrue, Some, length, take, drop, slice_get};
+ghost use Rattle.std.specs.Prelude.{◌≡◌, ◌<◌, ◌≤◌, ◌+◌, ◌*◌, [], ◌∷◌, ◌++◌, IfOk, OnOk, IfSome, IfNone, IsTrue, Some, length, take, drop, slice_get};
 ghost use Rattle.disk_model.specs.Past.{Adds};
 ghost use Rattle.op_log.specs.Fault.{HasReadCause};
 ghost use Rattle.op_log.specs.Log.{RecordStands};
-ghost use Rattle.op_log.specs.Reading.{head_in, blocks_in, AreBlocks, IsWhole, NoRecordStands};
+ghost use Rattle.op_log.specs.Reading.{head_in, blocks_in, AreBlocks, IsWhole, NoRecordStands, GainsRecord};
 ghost use Rattle.op_log.specs.Record.{HasRecord, record_blocks};
 
 use crate::decoding::decode;
 use crate::fault::ReadFault;
 use crate::head::Head;
+use crate::record_blocks;
 use disk_model::{Disk, DiskFault};
 use std::alloc::{AllocError, Global};
 use tree_model::Command;
 use vol_numbers::{Block, BlockNo};
 
+/// Reads the record that stands from a block on, if one stands there that takes at most so many blocks: its command comes behind the others, and
+/// how many blocks it takes is answered.
+pub(crate) fn push_next<D: Disk>(
+    alloc: Global,
+    disk: &mut D,
+    at: BlockNo,
+    left: u32,
+    commands: &mut Vec<Command>,
+) -> Result<Option<u32>, ReadFault>
+    requires room { at + left ≤ (D.fixed disk.old).size }
+    requires fits { at + left ≤ 65536 }
+    ensures gained { IfOk result (λ found. IfSome found (GainsRecord D.tells (D.state disk.old).contents at left commands.old.items commands.new.items)) }
+    ensures none { IfOk result (λ found. IfNone found (IsTrue D.tells → NoRecordStands (D.state disk.old).contents at left)) }
+    ensures same { IsTrue D.tells → D.state disk.new ≡ D.state disk.old }
+    ensures moments { IsTrue D.tells → Adds (D.past disk.old) (D.past disk.new) (λ s. s ≡ D.state disk.old) }
+    ensures fixed { D.fixed disk.new ≡ D.fixed disk.old }
+    ensures cause { HasReadCause (D.faults disk.old) (D.faults disk.new) result }
+{
+    let command = match next_record(alloc, disk, at, left) {
+        Ok(Some(command)) => command,
+        Ok(None) => return Ok(None),
+        Err(fault) => return Err(fault),
+    };
+    match push(commands, command) {
+        Ok(count) => Ok(Some(count)),
+        Err(AllocError) => Err(ReadFault::OutOfMemory),
+    }
+}
+
+/// Puts a command behind the others, and answers how many blocks its record takes.
+fn push(commands: &mut Vec<Command>, command: Command) -> Result<u32, AllocError>
+    requires { HasRecord command }
+    ensures count { IfOk result (λ count. count ≡ record_blocks command) }
+    ensures pushed { OnOk result (commands.new.items ≡ commands.old.items ++ command ∷ []) }
+{
+    let count = record_blocks(&command);
+    commands.push(command)?;
+    Ok(count)
+}
+
 /// The command whose record stands from a block on, if one stands there that takes at most so many blocks.
-pub(crate) fn next_record<D: Disk>(
+fn next_record<D: Disk>(
     alloc: Global,
     disk: &mut D,
     at: BlockNo,

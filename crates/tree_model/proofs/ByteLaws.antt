@@ -33,11 +33,13 @@ within_places number first count m place (k, below, is) =
     let counted : length (places number first count) ≡ count = length_places number first count in
     let at : (number, first + k) ≡ (m, place) = sym (places_at number first count k (m, place) (omega arith)) ∙ is in
     let same : first + k ≡ place = ap (λ (x : ℕ × ℕ). x.1) at in
-    (omega arith, omega arith)
+    let from : first ≤ place = omega arith in
+    let to : place < first + count = omega arith in
+    (from, to)
 
 -- ---- bytes
 
-length_resized : (bytes : List ℕ) (size : ℕ) → length (resized bytes size) ≡ size
+pub length_resized : (bytes : List ℕ) (size : ℕ) → length (resized bytes size) ≡ size
 length_resized bytes size = simp (length-append, length-take, length-replicate) (omega arith)
 
 resized_at : (bytes : List ℕ) (size i : ℕ) → i < size → slice_index_or (resized bytes size) i 0 ≡ slice_index_or bytes i 0

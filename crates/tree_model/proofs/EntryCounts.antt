@@ -1,6 +1,6 @@
 -- How many entries a directory has after each change, and how many nodes a tree can have.
 use Rattle.std.proofs.Common.{◌≡◌, ℕ, suc, ◌+◌, ◌≤◌, ◌<◌, List, [], ◌∷◌, ◌++◌, length, true, false, not, refl, sym, ap, subst, ◌∙◌, Some, None, cond, inl, inr, arith, append-nil, append_assoc}
-use Rattle.std.specs.Prelude.{Option, Bool, ◌⊎◌, ◌&&◌, ◌||◌, is_some, nat_eq}
+use Rattle.std.specs.Prelude.{Option, Bool, ◌&&◌, ◌||◌, is_some, nat_eq}
 use Rattle.std.specs.List.{IsDistinct, AllByRecursion, list_any, cons_option}
 use Rattle.std.specs.Ordering.{is_eq}
 use Rattle.std.specs.declared.cmp.Ordering.TheVariants.{Less, Equal, Greater}
@@ -16,7 +16,7 @@ use Rattle.tree_model.specs.Order.{IsOrdered}
 use Rattle.tree_model.specs.Shape.{IsShape, shape_of, shape_at}
 use Rattle.tree_model.proofs.AttemptLaws.{path_total, true_T}
 use Rattle.tree_model.proofs.Fronts.{tie, tie_is, tie_itself, test_fails, strip_is, strip_back, strip_none, compare}
-use Rattle.tree_model.proofs.Lookups.{IsClear, clear_head, clear_tail, Went, Stayed, new_is}
+use Rattle.tree_model.proofs.Lookups.{IsClear, clear_head, clear_tail, new_is}
 
 -- 1 where exactly one name is left
 abbrev pub alone : Option Path → ℕ

@@ -17,7 +17,7 @@ use Rattle.tree_model.specs.Follow.{ContentFollows, Follows}
 use Rattle.tree_model.specs.Laws.{RenameMoves, RenamesMove, KeepsTree}
 use Rattle.tree_model.proofs.Accepted.{with_ok, passed, walked, nothing}
 use Rattle.tree_model.proofs.AttemptLaws.{Accepts, put_at}
-use Rattle.tree_model.proofs.Fronts.{tie, tie_is, tie_itself, test_fails, strip_back, strip_none, last_name, no_longer}
+use Rattle.tree_model.proofs.Fronts.{tie_is, tie_itself, test_fails, strip_back, strip_none, last_name, no_longer}
 use Rattle.tree_model.proofs.Lookups.{IsClear, moved_at, widened_other}
 use Rattle.tree_model.proofs.Renames.{none_left, at_below, at_other, at_left}
 use Rattle.tree_model.proofs.StepFollows.{follows_itself}

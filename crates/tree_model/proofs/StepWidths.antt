@@ -1,6 +1,6 @@
 -- Widths and sizes after each command.
-use Rattle.std.proofs.Common.{◌≡◌, ℕ, ◌+◌, ◌-◌, ◌≤◌, List, [], ◌∷◌, ◌++◌, true, false, not, refl, sym, ap, subst, ◌∙◌, Some, None, cond, inl, inr, arith, length, take, drop, length-append, length-drop, length-take, append-nil}
-use Rattle.std.specs.Prelude.{Result, Ok, Err, Option, Bool, ◌⊎◌, ◌&&◌, is_some, max, nat_lt, replicate}
+use Rattle.std.proofs.Common.{◌≡◌, ℕ, ◌+◌, ◌-◌, ◌≤◌, List, [], ◌∷◌, ◌++◌, true, false, not, refl, sym, ap, subst, ◌∙◌, Some, None, cond, inl, inr, arith, length, length-append, length-drop}
+use Rattle.std.specs.Prelude.{Result, Ok, Err, Option, Bool, ◌⊎◌, is_some, max, nat_lt}
 use Rattle.std.proofs.lemmas.Bool.{false≢true}
 use Rattle.std.proofs.lemmas.Bool.Decides.{nat_tests}
 use Rattle.std.proofs.lemmas.Grind.{common_steps}
@@ -10,17 +10,18 @@ use Rattle.tree_model.specs.declared.node.Node.{Node}
 use Rattle.tree_model.specs.declared.node.Content.{Content}
 use Rattle.tree_model.specs.declared.node.Content.TheVariants.{File, Directory}
 use Rattle.tree_model.specs.declared.refusal.Refusal.{Refusal}
-use Rattle.tree_model.specs.declared.refusal.Refusal.TheVariants.{NotADirectory, Exists, RootFixed, Inside, NotEmpty, NoNumbers, TooBig}
+use Rattle.tree_model.specs.declared.refusal.Refusal.TheVariants.{Exists, NoNumbers, TooBig}
 use Rattle.tree_model.specs.declared.reply.Reply.{Reply}
-use Rattle.tree_model.specs.Path.{Path, is_root, parent_of, strip}
+use Rattle.tree_model.specs.Path.{Path, parent_of}
 use Rattle.tree_model.specs.Tree.{Tree, new_tree, node_at, with_node, without, is_directory, with_width, with_content_width, widened, moved, entries_of, is_used, least_unused, resized, written}
-use Rattle.tree_model.specs.Step.{step, attempt, settled, refuse_if, or_refuse, walk, bytes_of, has_entries, written_tree}
+use Rattle.tree_model.specs.Step.{step, attempt, settled, refuse_if, or_refuse, walk, bytes_of, written_tree}
 use Rattle.tree_model.specs.Order.{IsOrdered}
-use Rattle.tree_model.specs.Shape.{IsTree, shape_of, shape_at}
+use Rattle.tree_model.specs.Shape.{IsTree, shape_of}
 use Rattle.tree_model.specs.Laws.{WidthsAreGreatest, NewDirectoriesAreEmpty}
 use Rattle.tree_model.proofs.Accepted.{with_ok, passed, there, walked, is_file, nothing}
 use Rattle.tree_model.proofs.AttemptLaws.{Accepts, after_all, put_at, ordered_put, ordered_moved}
-use Rattle.tree_model.proofs.EntryCounts.{one, total, total_is, one_itself, one_apart, put_most, put_least, put_same, without_most, below_most, other_most, none_total, few_entries}
+use Rattle.tree_model.proofs.ByteLaws.{length_resized}
+use Rattle.tree_model.proofs.EntryCounts.{total, total_is, one_itself, one_apart, put_most, put_least, put_same, without_most, below_most, other_most, none_total, few_entries}
 use Rattle.tree_model.proofs.Fronts.{tie, tie_is, tie_itself, test_fails}
 use Rattle.tree_model.proofs.Lookups.{without_at, moved_at, widened_other}
 use Rattle.tree_model.proofs.Numbers.{gives_least}
@@ -279,13 +280,10 @@ old_size tree path h node walk_ok bytes file =
     let stood : node_at tree path ≡ Some (record { number = node.number; content = File bytes }) = walked tree path node walk_ok ∙ ap (λ (c : Content). Some (record { number = node.number; content = c })) (is_file node.content bytes file) in
     h.sizes path node.number bytes stood
 
-resized_length : (bytes : List ℕ) (size : ℕ) → length (resized bytes size) ≡ size
-resized_length bytes size = grind (arith, common_steps)
-
 written_length : (bytes : List ℕ) (offset : ℕ) (given : List ℕ) (limit : ℕ) → length bytes ≤ limit → offset + length given ≤ limit → length (written bytes offset given) ≤ limit
 written_length bytes offset given limit was new =
     let is : length (written bytes offset given) ≡ (length (resized bytes offset) + length given) + (length bytes - (offset + length given)) = simp (length-append, length-drop) in
-    omega (arith, resized_length bytes offset)
+    omega (arith, length_resized bytes offset)
 
 fits_in : (limit size : ℕ) → nat_lt limit size ≡ false → size ≤ limit
 fits_in limit size e = grind (arith, nat_tests)
@@ -299,7 +297,7 @@ write_end tree path offset (b ∷ given) h node walk_ok bytes file v small =
 truncate_end : (tree : Tree) (path : Path) (size : ℕ) → IsTree tree → (node : Node) → walk tree path ≡ Ok node → (bytes : List ℕ) → bytes_of node.content ≡ Ok bytes
     → (v : ℕ) → refuse_if (nat_lt 4294967296 size) TooBig ≡ Ok v → Leaves tree (with_node tree path (record { number = node.number; content = File (resized bytes size) }))
 truncate_end tree path size h node walk_ok bytes file v small =
-    let short : length (resized bytes size) ≤ 4294967296 = omega (arith, resized_length bytes size, fits_in 4294967296 size (passed _ TooBig v small)) in
+    let short : length (resized bytes size) ≤ 4294967296 = omega (arith, length_resized bytes size, fits_in 4294967296 size (passed _ TooBig v small)) in
     file_end tree path (resized bytes size) h node walk_ok short
 
 remove_end : (tree : Tree) (path : Path) → IsTree tree → Leaves tree (without tree path)

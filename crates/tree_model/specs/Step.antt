@@ -194,13 +194,3 @@ is_change (Layout path) = false
 is_change Space = false
 is_change Checkpoint = false
 is_change End = false
-
--- the replies to commands in order
-abbrev pub replies_of : Tree → List Command → List Reply
-replies_of tree [] = []
-replies_of tree (command ∷ commands) = (step tree command).0 ∷ replies_of (step tree command).1 commands
-
--- the tree after commands in order
-abbrev pub tree_after : Tree → List Command → Tree
-tree_after tree [] = tree
-tree_after tree (command ∷ commands) = tree_after (step tree command).1 commands

@@ -2,9 +2,10 @@
 ghost use Rattle.std.specs.Prelude.{◌≡◌, ◌<◌, [], IfOk, OnOk, OnErr, IsTrue, map, vec_len, vec_capacity};
 ghost use Rattle.tree_model.specs.Attempts.{Attempts};
 ghost use Rattle.tree_model.specs.Path.{parent_of};
-ghost use Rattle.tree_model.specs.Tree.{moved, new_path, widened};
+ghost use Rattle.tree_model.specs.Tree.{moved, new_path, widened, with_node};
 ghost use Rattle.tree_model.specs.Step.{make, write, truncate, read, remove, rename, list, stat, size_of, attempt, is_plain};
 ghost use Rattle.tree_model.specs.declared.plain_step.StepFault.TheVariants.{Memory, Refused};
+ghost use Rattle.tree_model.specs.declared.node.Content.TheVariants.{File};
 
 use crate::node_list::{entries_of, entry_count, kind_of, put, take_away, walk, widen};
 use crate::path_names::{copied, joined, parent_names, strip};
@@ -13,7 +14,7 @@ use crate::refusals::{
 };
 use crate::{Command, Content, EntryList, NameList, Node, Path, Refusal, Reply, file_bytes};
 use std::alloc::{AllocError, Global};
-use vol_numbers::{ByteList, Name};
+use vol_numbers::{ByteList, InoNo, Name};
 
 /// Why a command was not done.
 #[derive(Clone, Copy)]
@@ -38,6 +39,24 @@ impl From<Refusal> for StepFault {
     }
 }
 
+// Puts a new node at a path, and widens the directory that it comes into.
+fn put_new(
+    alloc: Global,
+    nodes: &mut Vec<(NameList, Node)>,
+    path: &[Name],
+    node: Node,
+) -> Result<(), AllocError>
+    ensures ok { OnOk result (nodes.new.items ≡ widened (with_node nodes.old.items path.now node) (parent_of path.now)) }
+    ensures err { OnErr result (nodes.new.items ≡ nodes.old.items) }
+{
+    let at = copied(alloc, path)?;
+    let parent = copied(alloc, parent_names(path))?;
+    nodes.reserve(2)?;
+    put(nodes, at, node);
+    widen(nodes, parent);
+    Ok(())
+}
+
 fn make(
     alloc: Global,
     nodes: &mut Vec<(NameList, Node)>,
@@ -47,12 +66,26 @@ fn make(
     ensures { Attempts nodes.old.items nodes.new.items result (make nodes.old.items path.now content) }
 {
     let number = may_make(nodes, path)?;
-    let at = copied(alloc, path.names())?;
-    let parent = copied(alloc, parent_names(path.names()))?;
-    nodes.reserve(2)?;
-    put(nodes, at, Node { number, content });
-    widen(nodes, parent);
+    put_new(alloc, nodes, path.names(), Node { number, content })?;
     Ok(Reply::Done)
+}
+
+// Puts a file in place of the one at a path.
+fn put_file(
+    alloc: Global,
+    nodes: &mut Vec<(NameList, Node)>,
+    path: &[Name],
+    number: InoNo,
+    bytes: ByteList,
+) -> Result<(), AllocError>
+    ensures ok { OnOk result (nodes.new.items ≡ with_node nodes.old.items path.now (record { number = number; content = File bytes })) }
+    ensures err { OnErr result (nodes.new.items ≡ nodes.old.items) }
+{
+    let at = copied(alloc, path)?;
+    nodes.reserve(1)?;
+    let content = Content::File(bytes);
+    put(nodes, at, Node { number, content });
+    Ok(())
 }
 
 fn write(
@@ -68,10 +101,8 @@ fn write(
     if bytes.is_empty() {
         return Ok(Reply::Done);
     }
-    let content = Content::File(file_bytes::written(alloc, old, offset, bytes)?);
-    let at = copied(alloc, path.names())?;
-    nodes.reserve(1)?;
-    put(nodes, at, Node { number, content });
+    let new = file_bytes::written(alloc, old, offset, bytes)?;
+    put_file(alloc, nodes, path.names(), number, new)?;
     Ok(Reply::Done)
 }
 
@@ -84,10 +115,8 @@ fn truncate(
     ensures { Attempts nodes.old.items nodes.new.items result (truncate nodes.old.items path.now size) }
 {
     let OldFile { number, bytes: old } = may_truncate(nodes, path, size)?;
-    let content = Content::File(file_bytes::resized(alloc, old, size)?);
-    let at = copied(alloc, path.names())?;
-    nodes.reserve(1)?;
-    put(nodes, at, Node { number, content });
+    let new = file_bytes::resized(alloc, old, size)?;
+    put_file(alloc, nodes, path.names(), number, new)?;
     Ok(Reply::Done)
 }
 

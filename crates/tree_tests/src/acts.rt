@@ -17,12 +17,14 @@ pub(crate) enum Act<'a> {
     Rename(&'a [u8], &'a [u8]),
     List(&'a [u8]),
     Stat(&'a [u8]),
-    /// Reads up to 10 bytes from the beginning.
-    Read(&'a [u8]),
+    /// Reads at most so many bytes from an offset on.
+    Read(&'a [u8], u64, u32),
+    /// Makes a file at a path of one name.
+    CreateNamed(&'a [u8]),
 }
 
 /// A path whose names have a letter each.
-pub(crate) fn letters(alloc: Global, text: &[u8]) -> Result<Path, Fail> {
+fn letters(alloc: Global, text: &[u8]) -> Result<Path, Fail> {
     let mut names = Vec::new(alloc);
     for letter in text {
         names.push(Name::new(&[*letter])?)?;
@@ -61,13 +63,14 @@ fn rename(alloc: Global, from: &[u8], to: &[u8]) -> Result<Command, Fail> {
     Ok(Command::Rename { from, to })
 }
 
-/// A read of so many bytes from an offset on.
-pub(crate) fn read_at(
-    alloc: Global,
-    path: &[u8],
-    offset: u64,
-    length: u32,
-) -> Result<Command, Fail> {
+fn create_named(alloc: Global, name: &[u8]) -> Result<Command, Fail> {
+    let mut names = Vec::new(alloc);
+    names.push(Name::new(name)?)?;
+    let path = Path::new(NameList::from_vec(names))?;
+    Ok(Command::Create { path })
+}
+
+fn read_at(alloc: Global, path: &[u8], offset: u64, length: u32) -> Result<Command, Fail> {
     let length = ReadLength::new(length)?;
     let path = letters(alloc, path)?;
     Ok(Command::Read {
@@ -94,7 +97,8 @@ pub(crate) fn command(alloc: Global, act: Act) -> Result<Command, Fail> {
         Act::Write(path, offset, bytes) => write(alloc, path, offset, bytes),
         Act::Fill(path, offset, byte, count) => fill(alloc, path, offset, byte, count),
         Act::Rename(from, to) => rename(alloc, from, to),
-        Act::Read(path) => read_at(alloc, path, 0, 10),
+        Act::Read(path, offset, length) => read_at(alloc, path, offset, length),
+        Act::CreateNamed(name) => create_named(alloc, name),
         Act::Mkdir(path)
         | Act::Create(path)
         | Act::Truncate(path, _)

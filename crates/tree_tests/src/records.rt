@@ -219,12 +219,16 @@ fn are_blocks(disk: &mut MemDisk, rows: &[(u32, &[u8], u8)]) -> Result<bool, Fai
     Ok(true)
 }
 
-fn writes_blocks(alloc: Global) -> Result<bool, Fail> {
-    let mut disk = MemDisk::new(alloc, 165)?;
-    if put_acts(alloc, &mut disk, ACTS)? != USED {
+fn writes_on(alloc: Global, disk: &mut MemDisk) -> Result<bool, Fail> {
+    if put_acts(alloc, disk, ACTS)? != USED {
         return Ok(false);
     }
-    are_blocks(&mut disk, BLOCKS)
+    are_blocks(disk, BLOCKS)
+}
+
+fn writes_blocks(alloc: Global) -> Result<bool, Fail> {
+    let mut disk = MemDisk::new(alloc, 165)?;
+    writes_on(alloc, &mut disk)
 }
 
 #[test]
@@ -246,8 +250,10 @@ const COUNTS: &[(Act<'static>, u32)] = &[
 ];
 
 fn counts(alloc: Global, act: Act) -> Result<u32, Fail> {
-    let command = command(alloc, act)?;
-    Ok(count_of(&command))
+    match command(alloc, act) {
+        Ok(command) => Ok(count_of(&command)),
+        Err(fail) => Err(fail),
+    }
 }
 
 /// How many blocks, and 0 for a command that changes nothing.
@@ -324,12 +330,19 @@ fn reads_roots(
     Ok(true)
 }
 
-fn reads_back(alloc: Global) -> Result<bool, Fail> {
-    let mut disk = MemDisk::new(alloc, 165)?;
-    if put_acts(alloc, &mut disk, ACTS)? != USED || !reads_copies(alloc, &mut disk)? {
+fn reads_on(alloc: Global, disk: &mut MemDisk) -> Result<bool, Fail> {
+    if put_acts(alloc, disk, ACTS)? != USED {
         return Ok(false);
     }
-    reads_roots(alloc, &mut disk, ROOTS)
+    if !reads_copies(alloc, disk)? {
+        return Ok(false);
+    }
+    reads_roots(alloc, disk, ROOTS)
+}
+
+fn reads_back(alloc: Global) -> Result<bool, Fail> {
+    let mut disk = MemDisk::new(alloc, 165)?;
+    reads_on(alloc, &mut disk)
 }
 
 #[test]
@@ -371,11 +384,21 @@ fn reads_fail(alloc: Global, disk: &mut MemDisk) -> Result<bool, Fail> {
     Ok(outcome_failing(alloc, disk, 23)? == Outcome::Records(7))
 }
 
+fn calls_fail(alloc: Global, disk: &mut MemDisk) -> Result<bool, Fail> {
+    if !writes_fail(alloc, disk)? {
+        return Ok(false);
+    }
+    reads_fail(alloc, disk)
+}
+
+fn fails(alloc: Global) -> Result<bool, Fail> {
+    let mut disk = MemDisk::new(alloc, 165)?;
+    calls_fail(alloc, &mut disk)
+}
+
 #[test]
 fn each_call_may_fail(rt: HostRuntime) -> Result<(), Fail> {
-    let mut disk = MemDisk::new(rt.alloc(), 165)?;
-    assert!(rt; writes_fail(rt.alloc(), &mut disk)?);
-    assert!(rt; reads_fail(rt.alloc(), &mut disk)?);
+    assert!(rt; fails(rt.alloc())?);
     Ok(())
 }
 
@@ -458,10 +481,14 @@ fn finds_damage(
     Ok(true)
 }
 
+fn refuses_damage(alloc: Global) -> Result<bool, Fail> {
+    let mut disk = MemDisk::new(alloc, 165)?;
+    finds_damage(alloc, &mut disk, DAMAGED)
+}
+
 #[test]
 fn damaged_records_are_refused(rt: HostRuntime) -> Result<(), Fail> {
-    let mut disk = MemDisk::new(rt.alloc(), 165)?;
-    assert!(rt; finds_damage(rt.alloc(), &mut disk, DAMAGED)?);
+    assert!(rt; refuses_damage(rt.alloc())?);
     Ok(())
 }
 
@@ -494,10 +521,14 @@ fn keeps_lengths(
     Ok(true)
 }
 
+fn data_ends(alloc: Global) -> Result<bool, Fail> {
+    let mut disk = MemDisk::new(alloc, 165)?;
+    keeps_lengths(alloc, &mut disk, LENGTHS)
+}
+
 #[test]
 fn data_has_1_to_65_536_bytes(rt: HostRuntime) -> Result<(), Fail> {
-    let mut disk = MemDisk::new(rt.alloc(), 165)?;
-    assert!(rt; keeps_lengths(rt.alloc(), &mut disk, LENGTHS)?);
+    assert!(rt; data_ends(rt.alloc())?);
     Ok(())
 }
 
@@ -576,11 +607,21 @@ fn keeps_limits(
     Ok(true)
 }
 
+fn paths_are_right(alloc: Global, disk: &mut MemDisk) -> Result<bool, Fail> {
+    if !refuses_paths(alloc, disk, NO_PATHS)? {
+        return Ok(false);
+    }
+    keeps_limits(alloc, disk, LONG_PATHS)
+}
+
+fn paths_end(alloc: Global) -> Result<bool, Fail> {
+    let mut disk = MemDisk::new(alloc, 165)?;
+    paths_are_right(alloc, &mut disk)
+}
+
 #[test]
 fn paths_keep_their_limits(rt: HostRuntime) -> Result<(), Fail> {
-    let mut disk = MemDisk::new(rt.alloc(), 165)?;
-    assert!(rt; refuses_paths(rt.alloc(), &mut disk, NO_PATHS)?);
-    assert!(rt; keeps_limits(rt.alloc(), &mut disk, LONG_PATHS)?);
+    assert!(rt; paths_end(rt.alloc())?);
     Ok(())
 }
 
@@ -608,9 +649,13 @@ fn tells_each_bad(alloc: Global, disk: &mut MemDisk) -> Result<bool, Fail> {
     Ok(true)
 }
 
+fn tells_first_bad(alloc: Global) -> Result<bool, Fail> {
+    let mut disk = MemDisk::new(alloc, 165)?;
+    tells_each_bad(alloc, &mut disk)
+}
+
 #[test]
 fn the_first_bad_record_is_told(rt: HostRuntime) -> Result<(), Fail> {
-    let mut disk = MemDisk::new(rt.alloc(), 165)?;
-    assert!(rt; tells_each_bad(rt.alloc(), &mut disk)?);
+    assert!(rt; tells_first_bad(rt.alloc())?);
     Ok(())
 }

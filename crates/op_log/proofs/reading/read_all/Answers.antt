@@ -10,7 +10,7 @@ use Rattle.tree_model.specs.declared.command.Command.{Command}
 use Rattle.op_log.specs.Log.{HoldsRecords, RecordStands, blocks_of}
 use Rattle.op_log.specs.Reading.{NoRecordStands}
 use Rattle.op_log.specs.Record.{HasRecord, record_blocks}
-use Rattle.op_log.proofs.LogLemmas.{blocks_of-push, first_bad, holds-push, pushed}
+use Rattle.op_log.proofs.LogLemmas.{blocks_of-push, first_bad, holds-push}
 use Rattle.disk_model.proofs.Moments.{adds_read}
 use Rattle.op_log.proofs.reading.read_all.Goals as goal
 
@@ -33,24 +33,25 @@ pub loop-i-preserved : goal.loop-i-preserved
 loop-i-preserved g c =
     let so_far = c.loop-i.invariant in
     let next = rw c.in-Ok-Some.field-0-is at c.in-Ok-Some.ensures in
+    let one = next.gained in
     let image : List Block = (g.D.Disk.state c.args.disk.now).contents in
     let commands : List Command = c.loop-i.commands.items in
-    let command : Command = c.in-Ok-Some.command in
+    let command : Command = one.command in
     let first : ℕ = log_start (root_of c.args.body.now).layout in
     let log_used : ℕ = c.args.body.now.log_used in
     let at : c.log_start-first.result + c.loop-i.used ≡ first + blocks_of commands = omega (arith, c.log_start-first.ensures, so_far.used) in
-    let longer : c.push.new.self.items ≡ commands ++ command ∷ [] = pushed commands c.push.new.self.items command _ c.push.ensures.items c.if-is_err.ensures.negation in
-    let room : blocks_of commands + record_blocks command ≤ log_used = omega (arith, next.within, so_far.used, so_far.within) in
-    let taken : blocks_of c.push.new.self.items ≡ blocks_of commands + record_blocks command = ap blocks_of longer ∙ blocks_of-push commands command in
+    let longer : c.push_next.new.commands.items ≡ commands ++ command ∷ [] = one.gained in
+    let room : blocks_of commands + record_blocks command ≤ log_used = omega (arith, one.counted, one.within, so_far.used, so_far.within) in
+    let taken : blocks_of c.push_next.new.commands.items ≡ blocks_of commands + record_blocks command = ap blocks_of longer ∙ blocks_of-push commands command in
     record {
       holds = λ tells.
           let stands : RecordStands image (first + blocks_of commands) command =
-          subst (λ (n : ℕ). RecordStands image n command) at (subst (λ (s : State). RecordStands s.contents (c.log_start-first.result + c.loop-i.used) command) (so_far.same tells) (next.stands tells)) in
-          subst (HoldsRecords image first log_used) (sym longer) (holds-push image first log_used commands command (so_far.holds tells) next.has_record stands room);
+          subst (λ (n : ℕ). RecordStands image n command) at (subst (λ (s : State). RecordStands s.contents (c.log_start-first.result + c.loop-i.used) command) (so_far.same tells) (one.stands tells)) in
+          subst (HoldsRecords image first log_used) (sym longer) (holds-push image first log_used commands command (so_far.holds tells) one.has_record stands room);
       count = ap length longer ∙ length_push commands command ∙ ap (λ (n : ℕ). n + 1) so_far.count;
-      have_records = subst (All HasRecord) (sym longer) (All-push HasRecord commands command so_far.have_records next.has_record);
+      have_records = subst (All HasRecord) (sym longer) (All-push HasRecord commands command so_far.have_records one.has_record);
       within = omega (arith, taken, room);
-      used = omega (arith, taken, so_far.used, c.record_blocks-used.ensures.is);
+      used = omega (arith, taken, so_far.used, one.counted);
       same = λ tells. next.same tells ∙ so_far.same tells;
       moments = λ tells. adds_read (so_far.moments tells) (so_far.same tells) (next.moments tells);
       fixed = next.fixed ∙ so_far.fixed;
