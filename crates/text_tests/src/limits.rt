@@ -2,15 +2,14 @@
 use command_text::{CommandReader, Item, TextFault, print_command, write_reply};
 use std::alloc::Global;
 use std::test::Fail;
-use tree_model::{Answer, Refusal, Reply};
+use tree_model::{Answer, Command, Refusal, Reply};
 use vol_numbers::{ByteList, CallList};
 use wire_ends::{MemSink, MemSource, Sink};
 
 /// How a session stopped.
 fn stop_of(read: &Result<Item, TextFault>) -> &'static [u8] {
     match read {
-        Ok(Item::Ended) => b"ended",
-        Ok(_) => b"",
+        Ok(_) => b"ended",
         Err(TextFault::Source) => b"source",
         Err(TextFault::BadStream) => b"bad stream",
         Err(TextFault::Budget) => b"budget",
@@ -27,15 +26,20 @@ fn show_refusal(alloc: Global, sink: &mut MemSink, refusal: Refusal) -> Result<b
     Ok(true)
 }
 
+fn show_command(alloc: Global, sink: &mut MemSink, command: &Command) -> Result<bool, Fail> {
+    print_command(alloc, sink, command)?;
+    Ok(true)
+}
+
 /// Appends what was read, a command by its spelling and a refusal by its reply. Whether there was one.
-fn show(alloc: Global, sink: &mut MemSink, item: Item) -> Result<bool, Fail> {
-    match item {
-        Item::Command(command) => {
-            print_command(alloc, sink, &command)?;
-            Ok(true)
+fn show(alloc: Global, sink: &mut MemSink, read: &Result<Item, TextFault>) -> Result<bool, Fail> {
+    match read {
+        Ok(Item::Command(command)) => show_command(alloc, sink, command),
+        Ok(Item::Refused(refusal)) => show_refusal(alloc, sink, *refusal),
+        _ => {
+            sink.put(stop_of(read))?;
+            Ok(false)
         }
-        Item::Refused(refusal) => show_refusal(alloc, sink, refusal),
-        Item::Ended => Ok(false),
     }
 }
 
@@ -47,11 +51,7 @@ fn show_next(
     sink: &mut MemSink,
 ) -> Result<bool, Fail> {
     let read = reader.read_command(source);
-    sink.put(stop_of(&read))?;
-    match read {
-        Ok(item) => show(alloc, sink, item),
-        Err(_) => Ok(false),
-    }
+    show(alloc, sink, &read)
 }
 
 /// Reads at most 20 items, and says twice how the session stopped.

@@ -127,11 +127,22 @@ fn put_through(sink: &mut MemSink, pieces: &[&[u8]]) -> usize {
     failed
 }
 
+fn is_buffered(
+    alloc: Global,
+    pieces: &[&[u8]],
+    fails: &[u64],
+    failed: usize,
+    got: &[u8],
+) -> Result<bool, Fail> {
+    let fails = call_list(alloc, fails)?;
+    let mut sink = MemSink::new(alloc, 100, fails)?;
+    let count = put_through(&mut sink, pieces);
+    Ok(count == failed && sink.bytes() == got)
+}
+
 fn are_buffered(alloc: Global) -> Result<bool, Fail> {
     for row in BUFFERED {
-        let fails = call_list(alloc, row.1)?;
-        let mut sink = MemSink::new(alloc, 100, fails)?;
-        if put_through(&mut sink, row.0) != row.2 || sink.bytes() != row.3 {
+        if !is_buffered(alloc, row.0, row.1, row.2, row.3)? {
             return Ok(false);
         }
     }

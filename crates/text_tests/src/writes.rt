@@ -44,14 +44,19 @@ fn writes_of(alloc: Global, answer: &Answer) -> Result<(usize, usize, usize), Fa
     Ok((counts.writes, counts.bytes, counts.short))
 }
 
+/// Whether an answer is one write of so many bytes.
+fn is_one_write(alloc: Global, answer: &Answer, count: usize) -> Result<bool, Fail> {
+    let (writes, bytes, _) = writes_of(alloc, answer)?;
+    Ok(writes == 1 && bytes == count)
+}
+
 /// Whether a reply is one write of so many bytes.
 fn is_one(alloc: Global, reply: Reply, count: usize) -> Result<bool, Fail> {
     let answer = Answer {
         report: None,
         reply,
     };
-    let (writes, bytes, _) = writes_of(alloc, &answer)?;
-    Ok(writes == 1 && bytes == count)
+    is_one_write(alloc, &answer, count)
 }
 
 /// How many bytes are read, and how many their answer has.
@@ -99,42 +104,68 @@ fn long_layout(alloc: Global, count: usize) -> Result<Reply, Fail> {
     Ok(Reply::Layout(PieceList::from_vec(pieces)))
 }
 
-fn lists_are_one(alloc: Global) -> Result<bool, Fail> {
-    Ok(
-        is_one(alloc, listed(alloc)?, 32)?
-            && is_one(alloc, long_list(alloc, 1_000)?, 205_010)?
-            && is_one(alloc, laid_out(alloc)?, 31)?
-            && is_one(alloc, long_layout(alloc, 7_000)?, 70_012)?,
-    )
+/// So many entries, and how many bytes they are.
+fn list_is_one(alloc: Global, entries: usize, count: usize) -> Result<bool, Fail> {
+    is_one(alloc, long_list(alloc, entries)?, count)
 }
 
-fn a_report_is_one(alloc: Global) -> Result<bool, Fail> {
+/// So many pieces, and how many bytes they are.
+fn layout_is_one(alloc: Global, pieces: usize, count: usize) -> Result<bool, Fail> {
+    is_one(alloc, long_layout(alloc, pieces)?, count)
+}
+
+fn listed_is_one(alloc: Global) -> Result<bool, Fail> {
+    is_one(alloc, listed(alloc)?, 32)
+}
+
+fn laid_out_is_one(alloc: Global) -> Result<bool, Fail> {
+    is_one(alloc, laid_out(alloc)?, 31)
+}
+
+fn report_is_one(alloc: Global) -> Result<bool, Fail> {
     let answer = reported(alloc)?;
-    let (writes, bytes, _) = writes_of(alloc, &answer)?;
-    Ok(writes == 1 && bytes == 87)
+    is_one_write(alloc, &answer, 87)
+}
+
+fn lines_are_one(alloc: Global) -> Result<bool, Fail> {
+    let done = is_one(alloc, Reply::Done, 3)?;
+    let refused = is_one(alloc, Reply::Refused(Refusal::BadName), 18)?;
+    Ok(done && refused)
 }
 
 #[test]
-fn answers_are_one_write(rt: HostRuntime) -> Result<(), Fail> {
+fn short_answers_are_one_write(rt: HostRuntime) -> Result<(), Fail> {
     let alloc = rt.alloc();
-    assert!(rt; is_one(alloc, Reply::Done, 3)?);
-    assert!(rt; is_one(alloc, Reply::Refused(Refusal::BadName), 18)?);
-    assert!(rt; data_are_one(alloc)?);
-    assert!(rt; lists_are_one(alloc)?);
-    assert!(rt; a_report_is_one(alloc)?);
+    let are = lines_are_one(alloc)?
+        && listed_is_one(alloc)?
+        && laid_out_is_one(alloc)?
+        && report_is_one(alloc)?;
+    assert!(rt; are);
     Ok(())
 }
 
-fn long_layout_is_three(alloc: Global) -> Result<bool, Fail> {
+#[test]
+fn long_answers_are_one_write(rt: HostRuntime) -> Result<(), Fail> {
+    let alloc = rt.alloc();
+    let are = data_are_one(alloc)?
+        && list_is_one(alloc, 1_000, 205_010)?
+        && layout_is_one(alloc, 7_000, 70_012)?;
+    assert!(rt; are);
+    Ok(())
+}
+
+fn reply_writes(alloc: Global, reply: Reply) -> Result<(usize, usize, usize), Fail> {
     let answer = Answer {
         report: None,
-        reply: long_layout(alloc, 20_000)?,
+        reply,
     };
-    Ok(writes_of(alloc, &answer)? == (3, 200_013, 1))
+    writes_of(alloc, &answer)
 }
 
 #[test]
 fn long_layouts_are_long_writes(rt: HostRuntime) -> Result<(), Fail> {
-    assert!(rt; long_layout_is_three(rt.alloc())?);
+    let alloc = rt.alloc();
+    let (writes, bytes, short) = reply_writes(alloc, long_layout(alloc, 20_000)?)?;
+    assert!(rt; writes == 3 && bytes == 200_013 && short == 1);
     Ok(())
 }

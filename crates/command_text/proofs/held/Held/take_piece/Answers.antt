@@ -1,4 +1,4 @@
-use Rattle.std.proofs.Common.{◌≡◌, ◌∙◌, ◌+◌, ◌-◌, ◌++◌, ◌≤◌, ℕ, List, drop, take, length, ap, replicate, length-drop, arith}
+use Rattle.std.proofs.Common.{◌≡◌, ◌∙◌, ◌+◌, ◌-◌, ◌++◌, ◌≤◌, drop, take, length, ap, replicate, length-drop, arith}
 use Rattle.std.specs.Prelude.{vec_len}
 use Rattle.command_text.specs.Holding.{Holding}
 use Rattle.command_text.proofs.HeldLemmas.{written_behind, old_front}
