@@ -15,7 +15,7 @@ use Rattle.log_volume.specs.declared.answer.Stopped.{Stopped}
 use Rattle.log_volume.specs.declared.answer.Stopped.TheVariants.{Now, Before}
 use Rattle.log_volume.proofs.ImageLaws.{kept_stands, image_keeps}
 use Rattle.std.specs.Prelude.{OnErr}
-use Rattle.command_text.specs.Reading.{ReadsNext, HasTextCause}
+use Rattle.command_text.specs.Reading.{ReadsNext}
 use Rattle.command_text.specs.declared.fault.TextFault.{TextFault}
 use Rattle.command_text.specs.declared.fault.TextFault.TheVariants.{Source, BadStream, Budget, OutOfMemory}
 use Rattle.command_text.specs.Text.{Text, Next, next}
@@ -23,7 +23,6 @@ use Rattle.command_text.specs.Text.Next.{Given}
 use Rattle.command_text.specs.declared.item.Item.{Item}
 use Rattle.command_text.specs.declared.item.Item.TheVariants as item
 use Rattle.command_server.specs.Answering.{status_of, Says}
-use Rattle.command_server.specs.Faults.{device_faults, source_faults, sink_faults, faults_then}
 use Rattle.command_server.specs.Items.{IsLegal, added_by}
 use Rattle.command_server.specs.Serving.{ended_by, left_by, no_text}
 use Rattle.command_server.specs.Texts.{answered_text}

@@ -134,7 +134,14 @@ impl Bench {
             return Ok(Vec::new(alloc));
         };
         let mut volume = mounted;
-        let status = serve(alloc, &mut volume, &mut self.media, &mut source, &mut sink, budget);
+        let status = serve(
+            alloc,
+            &mut volume,
+            &mut self.media,
+            &mut source,
+            &mut sink,
+            budget,
+        );
         told(alloc, status, &sink, left_in(&mut source, most))
     }
 

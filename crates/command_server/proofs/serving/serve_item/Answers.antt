@@ -1,4 +1,4 @@
-use Rattle.std.proofs.Common.{◌≡◌, sym, ap, subst, Some, Err, Result}
+use Rattle.std.proofs.Common.{sym, ap, subst, Some, Err, Result}
 use Rattle.std.specs.Prelude.{IsTrue}
 use Rattle.log_volume.specs.Fits.{kept_by}
 use Rattle.command_text.specs.Reading.{unread}

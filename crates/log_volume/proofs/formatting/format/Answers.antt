@@ -1,7 +1,6 @@
 use Rattle.std.proofs.Common.{◌≡◌, ◌∙◌, length}
 use Rattle.disk_model.proofs.Moments.{adds_weaker}
 use Rattle.vol_numbers.specs.Geometry.{layout_of}
-use Rattle.vol_numbers.specs.Layout.{Layout}
 use Rattle.log_volume.proofs.FormatLemmas.{long_moment, ordered_moment}
 use Rattle.log_volume.proofs.formatting.format.Goals as goal
 

@@ -1,4 +1,4 @@
-use Rattle.std.proofs.Common.{◌≡◌, ◌∙◌, subst, sym, refl, arith}
+use Rattle.std.proofs.Common.{◌∙◌, subst, sym, refl, arith}
 use Rattle.vol_numbers.specs.Geometry.{layout_of}
 use Rattle.disk_model.specs.Disk.{State}
 use Rattle.disk_model.proofs.Moments.{adds_none}
