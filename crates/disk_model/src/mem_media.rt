@@ -110,7 +110,7 @@ impl MemMedia {
         }
     }
 
-    /// Whether it still tells its moments. Where memory for the record is wanting it ends to.
+    /// Whether it still tells its moments. It stops where memory for the record is wanting.
     pub fn tells_moments(&self) -> bool
         ensures { result ≡ (⟦<MemMedia as Disk>⟧.past self.now).is_told }
     {

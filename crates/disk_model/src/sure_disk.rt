@@ -65,7 +65,7 @@ impl SureDisk {
         self.steps.len() as u64
     }
 
-    /// Whether it still tells its moments. Where memory for the record is wanting it ends to.
+    /// Whether it still tells its moments. It stops where memory for the record is wanting.
     pub fn tells_moments(&self) -> bool
         ensures { result ≡ (⟦<SureDisk as Disk>⟧.past self.now).is_told }
     {
