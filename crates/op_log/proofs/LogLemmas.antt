@@ -4,9 +4,8 @@ use Rattle.std.specs.Prelude.{slice_get}
 use Rattle.std.proofs.lemmas.Bool.{cases_lt}
 use Rattle.vol_numbers.specs.declared.block.Block.{Block}
 use Rattle.tree_model.specs.declared.command.Command.{Command}
-use Rattle.tree_model.specs.declared.command.Command.TheVariants.{Mkdir, Create, Write, Truncate, Remove, Rename, Read, List as ListOf, Stat, Layout, Space, Checkpoint, End}
 use Rattle.op_log.specs.Log.{HoldsRecords, IsFirstBad, RecordStands, RecordsStand, blocks_of}
-use Rattle.op_log.specs.Record.{HasRecord, IsLogged, record_blocks}
+use Rattle.op_log.specs.Record.{HasRecord, record_blocks}
 use Rattle.op_log.specs.Laws.{OneSpelling, OneLog, NoneBehindBad, UsedBlocksTell, OneRecordMore}
 use Rattle.op_log.specs.Reading.{NoRecordStands}
 use Rattle.op_log.proofs.SpellingLaws.{one_command}

@@ -249,8 +249,8 @@ const COUNTS: &[(Act<'static>, u32)] = &[
     (Act::Rename(b"", b""), 1),
 ];
 
-fn counts(alloc: Global, act: Act) -> Result<u32, Fail> {
-    match command(alloc, act) {
+fn count_made(made: Result<Command, Fail>) -> Result<u32, Fail> {
+    match made {
         Ok(command) => Ok(count_of(&command)),
         Err(fail) => Err(fail),
     }
@@ -267,7 +267,7 @@ fn count_of(command: &Command) -> u32 {
 
 fn counts_all(alloc: Global, rows: &[(Act, u32)]) -> Result<bool, Fail> {
     for (act, want) in rows {
-        if counts(alloc, *act)? != *want {
+        if count_made(command(alloc, *act))? != *want {
             return Ok(false);
         }
     }
