@@ -4,9 +4,10 @@ ghost use Rattle.std.specs.List.{flat_map};
 ghost use Rattle.vol_numbers.specs.Cause.{HasCause};
 ghost use Rattle.wire_ends.specs.Buffer.{PutsThrough};
 ghost use Rattle.command_text.specs.Putting.{PutsText, PutsAnswer, HasPutCause};
-ghost use Rattle.command_text.specs.Replies.{piece_text, line_text, counted_text, report_text, reply_text, answer_text, IsListText, HasEntries};
+ghost use Rattle.command_text.specs.Replies.{piece_text, line_text, counted_text, report_text, reply_text, refusal_text, answer_text, IsListText, HasEntries};
 ghost use Rattle.std.specs.String.{string_bytes};
 ghost use Rattle.command_text.specs.declared.fault.PutFault.TheVariants.{OutOfMemory};
+ghost use Rattle.tree_model.specs.declared.reply.Reply.TheVariants.{Space};
 
 use crate::PutFault;
 use crate::entries::entries_text;
@@ -16,7 +17,7 @@ use crate::reply::{
 };
 use crate::text_line::{LINE_ROOM, TextLine};
 use std::alloc::{AllocError, Global};
-use tree_model::{Answer, Line, MOST_BYTES, Piece, Reply, Report};
+use tree_model::{Answer, Line, MOST_BYTES, Piece, Refusal, Reply, Report};
 use wire_ends::{PutBuffer, Sink, SinkFault};
 
 /// Room for a line, and for the bytes of a block.
@@ -149,6 +150,30 @@ fn put_ended<W: Sink, const ROOM: usize>(
     }
 }
 
+fn put_refusal<W: Sink, const ROOM: usize>(
+    buffer: &mut PutBuffer<ROOM>,
+    sink: &mut W,
+    refusal: Refusal,
+) -> Result<(), SinkFault>
+    ensures text { PutsThrough (W.seen sink.old) (W.seen sink.new) buffer.old buffer.new (refusal_text refusal) result }
+    ensures cause { HasCause (W.seen sink.old).faults (W.seen sink.new).faults result }
+{
+    put_line(buffer, sink, &refusal_line(refusal))
+}
+
+fn put_space<W: Sink, const ROOM: usize>(
+    buffer: &mut PutBuffer<ROOM>,
+    sink: &mut W,
+    free: u32,
+    pending: u32,
+    log: u32,
+) -> Result<(), SinkFault>
+    ensures text { PutsThrough (W.seen sink.old) (W.seen sink.new) buffer.old buffer.new (reply_text (Space free pending log)) result }
+    ensures cause { HasCause (W.seen sink.old).faults (W.seen sink.new).faults result }
+{
+    put_line(buffer, sink, &space_line(free, pending, log))
+}
+
 /// Puts a reply. The text of a list is given.
 fn put_reply<W: Sink, const ROOM: usize>(
     buffer: &mut PutBuffer<ROOM>,
@@ -161,17 +186,15 @@ fn put_reply<W: Sink, const ROOM: usize>(
     ensures cause { HasCause (W.seen sink.old).faults (W.seen sink.new).faults result }
 {
     match reply {
-        Reply::Done => put_line(buffer, sink, &TextLine::of("ok\n")),
+        Reply::Done => buffer.put(sink, b"ok\n"),
         Reply::Data(bytes) => put_data(buffer, sink, bytes.as_slice()),
         Reply::Entries(_) => buffer.put(sink, list.as_bytes()),
         Reply::Stat { kind, number, size } => {
             put_line(buffer, sink, &stat_line(*kind, *number, *size))
         }
         Reply::Layout(pieces) => put_layout(buffer, sink, pieces.as_slice()),
-        Reply::Space { free, pending, log } => {
-            put_line(buffer, sink, &space_line(*free, *pending, *log))
-        }
-        Reply::Refused(refusal) => put_line(buffer, sink, &refusal_line(*refusal)),
+        Reply::Space { free, pending, log } => put_space(buffer, sink, *free, *pending, *log),
+        Reply::Refused(refusal) => put_refusal(buffer, sink, *refusal),
     }
 }
 
