@@ -1,6 +1,6 @@
 //! The image `v`: its blocks are shown and changed, its calls are planned, and its power is cut.
 use crate::ends::one_call;
-use crate::texts::number;
+use crate::texts::{byte, number};
 use disk_model::{Disk, Media, MemDisk, MemMedia, Pick};
 use std::alloc::{AllocError, Global};
 use vol_numbers::{Block, BlockNo};
@@ -24,19 +24,14 @@ pub(crate) fn change(
     words: &[&str],
 ) -> Result<(), AllocError> {
     match words {
-        ["damage", at, byte, value] => {
-            damage(
-                media,
-                number(at),
-                number(byte) as usize,
-                number(value) as u8,
-            );
+        ["damage", at, place, value] => {
+            damage(media, number(at), number(place) as usize, byte(value));
             Ok(())
         }
         ["device", call] => plan(alloc, media, Some(number(call) as u64), None),
         ["device", "from", call] => plan(alloc, media, None, Some(number(call) as u64)),
         ["cut"] => cut(alloc, media, None),
-        ["cut", byte] => cut(alloc, media, Some(number(byte) as u8)),
+        ["cut", fill] => cut(alloc, media, Some(byte(fill))),
         _ => Ok(()),
     }
 }

@@ -61,3 +61,8 @@ fn digit(number: u8) -> u8
 pub(crate) fn number(word: &str) -> u32 {
     word.parse::<u32>().unwrap_or(0)
 }
+
+/// The byte that a word writes, and 0 where it writes none.
+pub(crate) fn byte(word: &str) -> u8 {
+    word.parse::<u8>().unwrap_or(0)
+}

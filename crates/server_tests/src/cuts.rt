@@ -149,7 +149,7 @@ fn change_and_cut(
     })
 }
 
-fn outcome(alloc: Global, failing: Failing, fill: Option<u8>) -> Result<Outcome, Fail> {
+fn outcome_of(alloc: Global, failing: Failing, fill: Option<u8>) -> Result<Outcome, Fail> {
     let mut media = fresh(alloc)?;
     change_and_cut(alloc, &mut media, failing, fill)
 }
@@ -175,9 +175,9 @@ fn watch(alloc: Global, fill: Option<u8>) -> Result<Seen, Fail> {
         lost: false,
     };
     for call in 0..MANY {
-        let all = outcome(alloc, Failing::From(call), fill)?;
+        let all = outcome_of(alloc, Failing::From(call), fill)?;
         // The session stops at the first call that fails, so that it doesn't matter what fails behind it.
-        let alone = outcome(alloc, Failing::Alone(call), fill)?;
+        let alone = outcome_of(alloc, Failing::Alone(call), fill)?;
         if alone != all || !all.is_lawful() {
             seen.wrong = Some(call);
         }
