@@ -178,14 +178,16 @@ module _ (g : Layout) (valid : IsValid g) (s : State) (long : length s.contents 
       let long_after : (block : Block) → length (slice_set rooted 0 block) ≡ length s.contents = λ block. length-set rooted 0 block ∙ long_rooted ∙ sym long in
       ⊎_elim
       (λ at_root. inl (⊎_elim
-          (λ w. subst (KeepsSelector s) (sym w.is) (keeps_on keeps (keeps_written 1 w.block inodes_in (omega arith))))
-          (λ e. subst (KeepsSelector s) (sym e) (keeps_on keeps (keeps_on (keeps_written 1 (root_block g) inodes_in (omega arith)) (keeps_synced (written 1 (root_block g) inodes_in)))))
-          at_root))
+      (λ w. subst (KeepsSelector s) (sym w.is) (keeps_on keeps (keeps_written 1 w.block inodes_in (omega arith))))
+      (λ e. subst (KeepsSelector s) (sym e) (keeps_on keeps (keeps_on (keeps_written 1 (root_block g) inodes_in (omega arith)) (keeps_synced (written 1 (root_block g) inodes_in)))))
+      at_root))
       (λ at_selector. inr (⊎_elim
-          (λ w. (ap (λ (t : State). length t.contents) w.is ∙ long_after w.block, subst (EachImage (HasFreshBody g)) (sym w.is) (body_in_images w.block)))
-          (λ e. (ap (λ (t : State). length t.contents) e ∙ long_after zero_block,
-              subst (EachImage (HasFreshBody g)) (sym e) (λ image is. body_in_images zero_block image (image_unsynced (written 0 zero_block rooted_state) image is))))
-          at_selector))
+      (λ w. (ap (λ (t : State). length t.contents) w.is ∙ long_after w.block, subst (EachImage (HasFreshBody g)) (sym w.is) (body_in_images w.block)))
+      (λ e. (
+        ap (λ (t : State). length t.contents) e ∙ long_after zero_block,
+        subst (EachImage (HasFreshBody g)) (sym e) (λ image is. body_in_images zero_block image (image_unsynced (written 0 zero_block rooted_state) image is)),
+      ))
+      at_selector))
       writes
 
 -- the state after each part of a format
