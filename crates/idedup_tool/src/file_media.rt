@@ -5,30 +5,29 @@ ghost use Rattle.vol_numbers.specs.Cause.{raised, HasCause};
 use crate::failure::{Failure, ImageCall};
 use crate::image::Image;
 use disk_model::{Disk, DiskFault, LastRead, Media, OpenFault};
-use std::fs::{File, Files};
 use std::io;
 use vol_numbers::{Block, BlockNo, FaultCount};
 
 /// A medium whose images are files.
 #[derive(Drop)]
-pub struct FileMedia<R: Files<File = File>> {
-    rt: R,
+pub struct FileMedia {
+    rt: HostRuntime,
     image: Option<Image>,
     pub(crate) faults: FaultCount,
     given: LastRead,
     failure: Option<Failure>,
 }
 
-impl<R: Files<File = File>> FileMedia<R> {
+impl FileMedia {
     ghost use Rattle.vol_numbers.specs.Block.{zero_block};
     ghost use Rattle.disk_model.specs.Media.{of_size};
     ghost use Rattle.idedup_tool.specs.Image.{count_of};
 
     /// Opens nothing: there are 0 blocks.
-    pub fn new(rt: R) -> FileMedia<R>
-        ensures size { ⟦<FileMedia<R> as Disk>⟧.fixed result ≡ of_size 0 }
-        ensures faults { ⟦<FileMedia<R> as Disk>⟧.faults result ≡ 0 }
-        ensures given { ⟦<FileMedia<R> as Disk>⟧.given result ≡ record { at = 0; block = zero_block; count = 0 } }
+    pub fn new(rt: HostRuntime) -> FileMedia
+        ensures size { ⟦<FileMedia as Disk>⟧.fixed result ≡ of_size 0 }
+        ensures faults { ⟦<FileMedia as Disk>⟧.faults result ≡ 0 }
+        ensures given { ⟦<FileMedia as Disk>⟧.given result ≡ record { at = 0; block = zero_block; count = 0 } }
     {
         FileMedia {
             rt,
@@ -77,7 +76,7 @@ fn noted(
     }
 }
 
-impl<R: Files<File = File>> Disk for FileMedia<R> {
+impl Disk for FileMedia {
     ghost use Rattle.std.specs.Prelude.{false};
     ghost use Rattle.disk_model.specs.Disk.{blank};
     ghost use Rattle.idedup_tool.specs.Image.{fixed_of};
@@ -134,7 +133,7 @@ impl<R: Files<File = File>> Disk for FileMedia<R> {
     }
 }
 
-impl<R: Files<File = File>> Media for FileMedia<R> {
+impl Media for FileMedia {
     fn open(&mut self, name: &str, blocks: Option<u32>) -> Result<(), OpenFault> {
         match self.reopen(name, blocks) {
             Ok(()) => Ok(()),

@@ -2,7 +2,8 @@
 ghost use Rattle.std.specs.Prelude.{◌≡◌, ◌*◌, ◌/◌, ◌<◌, ◌^◌, ◌↔◌, IsOk, IfOk, IfSome};
 
 use crate::failure::{Failure, ImageCall};
-use std::fs::{File, Files, OpenOptions, TryLockError};
+use crate::pages::drop_pages;
+use std::fs::{File, OpenOptions, TryLockError};
 use std::io;
 use std::os::fd::AsRawFd;
 use std::os::unix::fs::FileExt;
@@ -19,28 +20,19 @@ pub(crate) struct Image {
 impl Image {
     /// Opens the file of this name, which no other server may have open. With a number of blocks the file is made, or what is in it is
     /// dropped, and it has so many zero blocks. Without one it is taken as the disk has it.
-    pub(crate) fn open<R: Files<File = File>>(
-        rt: &R,
-        name: &str,
-        blocks: Option<u32>,
-    ) -> Result<Image, Failure>
+    pub(crate) fn open(rt: &HostRuntime, name: &str, blocks: Option<u32>) -> Result<Image, Failure>
         ensures { IfOk result (λ image. IfSome blocks (λ n. image.count ≡ n)) }
     {
         let file = open_file(rt, name, blocks.is_some())?;
         lock(&file)?;
         match blocks {
             Some(blocks) => Image::made(rt, name, file, blocks),
-            None => Image::found(file),
+            None => Image::found(rt, name, file),
         }
     }
 
     /// A new image in an open file of this name, which is on the disk with its entry in its folder.
-    fn made<R: Files<File = File>>(
-        rt: &R,
-        name: &str,
-        file: File,
-        blocks: u32,
-    ) -> Result<Image, Failure>
+    fn made(rt: &HostRuntime, name: &str, file: File, blocks: u32) -> Result<Image, Failure>
         ensures { IfOk result (λ image. image.count ≡ blocks) }
     {
         fill_with_zeros(&file, blocks)?;
@@ -51,9 +43,11 @@ impl Image {
         })
     }
 
-    /// The image that an open file has on the disk.
-    fn found(file: File) -> Result<Image, Failure> {
-        settle(&file)?;
+    /// The image that an open file of this name has on the disk. A sync of an earlier process may have failed, and then the system holds pages
+    /// which it takes for written and the disk doesn't have. So all is written first, and then the copies in memory are dropped.
+    fn found(rt: &HostRuntime, name: &str, file: File) -> Result<Image, Failure> {
+        ImageCall::Sync.answered(file.sync_all())?;
+        ImageCall::Forget.answered(drop_pages(rt, name))?;
         let count = whole_blocks_of(&file)?;
         Ok(Image { file, count })
     }
@@ -96,7 +90,7 @@ fn whole_blocks_of(file: &File) -> Result<u32, Failure> {
 }
 
 /// Opens a regular file for reading and writing. Nothing in the file is changed.
-fn open_file<R: Files<File = File>>(rt: &R, name: &str, may_make: bool) -> Result<File, Failure> {
+fn open_file(rt: &HostRuntime, name: &str, may_make: bool) -> Result<File, Failure> {
     let file = ImageCall::Open.answered(
         OpenOptions::new()
             .read(true)
@@ -139,21 +133,8 @@ fn fill_with_zeros(file: &File, blocks: u32) -> Result<(), Failure> {
     ImageCall::Sync.answered(file.sync_all())
 }
 
-/// Has the file read from the disk from here on. A sync of an earlier process may have failed, and then the system holds pages which it takes
-/// for written and the disk doesn't have. So all is written first, and then the copies in memory are dropped.
-fn settle(file: &File) -> Result<(), Failure> {
-    ImageCall::Sync.answered(file.sync_all())?;
-    let advised = libc::posix_fadvise(file.as_raw_fd(), 0, 0, libc::POSIX_FADV_DONTNEED);
-    let forgotten = if advised == 0 {
-        Ok(())
-    } else {
-        Err(io::Error::from_raw_os_error(advised))
-    };
-    ImageCall::Forget.answered(forgotten)
-}
-
 /// Has the file's entry on the disk, in the folder that it stands in.
-fn sync_folder<R: Files<File = File>>(rt: &R, name: &str) -> Result<(), Failure> {
+fn sync_folder(rt: &HostRuntime, name: &str) -> Result<(), Failure> {
     let folder = match Path::new(name).parent() {
         Some(folder) if !folder.as_str().is_empty() => folder,
         _ => Path::new("."),

@@ -9,6 +9,7 @@ mod explain;
 mod failure;
 mod file_media;
 mod image;
+mod pages;
 #[cfg(test)]
 mod tests;
 mod words;

@@ -5,8 +5,6 @@ use std::test::Fail;
 use std::{env, fs, io};
 use vol_numbers::{Block, FaultCount};
 
-type HostMedia = FileMedia<HostRuntime>;
-
 /// What is done with an image in a file, and how it must end.
 enum Step {
     /// It opens with a number of blocks, or as it is, and has so many then.
@@ -96,7 +94,7 @@ fn is_count(count: FaultCount, faults: u32) -> bool {
 }
 
 /// Whether this is told of the last call that failed.
-fn tells(rt: &HostRuntime, media: &HostMedia, words: &str) -> bool {
+fn tells(rt: &HostRuntime, media: &FileMedia, words: &str) -> bool {
     match media.failure() {
         Some(failure) => format!(in rt.alloc(); "{failure}").is_ok_and(|text| text.as_str()
             == words),
@@ -104,11 +102,11 @@ fn tells(rt: &HostRuntime, media: &HostMedia, words: &str) -> bool {
     }
 }
 
-fn opens(media: &mut HostMedia, path: &str, blocks: Option<u32>, count: u32) -> bool {
+fn opens(media: &mut FileMedia, path: &str, blocks: Option<u32>, count: u32) -> bool {
     media.open(path, blocks).is_ok() && media.blocks() == count
 }
 
-fn is_refused(media: &mut HostMedia, path: &str, blocks: Option<u32>) -> bool {
+fn is_refused(media: &mut FileMedia, path: &str, blocks: Option<u32>) -> bool {
     media.open(path, blocks) == Err(OpenFault::Failed) && media.blocks() == 0
 }
 
@@ -119,12 +117,12 @@ fn is_locked(rt: &HostRuntime, path: &str) -> bool {
         && tells(rt, &other, "lock: another program has it open")
 }
 
-fn reads(media: &mut HostMedia, at: u32, byte: u8) -> bool {
+fn reads(media: &mut FileMedia, at: u32, byte: u8) -> bool {
     let mut block = Block::filled(255);
     at < media.blocks() && media.read_block(at, &mut block).is_ok() && block == Block::filled(byte)
 }
 
-fn writes(media: &mut HostMedia, at: u32, byte: u8) -> bool {
+fn writes(media: &mut FileMedia, at: u32, byte: u8) -> bool {
     at < media.blocks() && media.write_block(at, &Block::filled(byte)).is_ok()
 }
 
@@ -153,7 +151,7 @@ fn is_absent(rt: &HostRuntime, path: &str) -> bool {
     matches!(fs::exists(rt, path), Ok(false))
 }
 
-fn ends_so(rt: &HostRuntime, media: &mut HostMedia, path: &str, step: &Step) -> bool {
+fn ends_so(rt: &HostRuntime, media: &mut FileMedia, path: &str, step: &Step) -> bool {
     match step {
         Step::Opens(blocks, count) => opens(media, path, *blocks, *count),
         Step::Refused(blocks, words) => {
