@@ -1,6 +1,6 @@
 //! What is said on standard error of a call of the program that was not done.
-use crate::failure::Failure;
 use command_server::Status;
+use media_files::Failure;
 use std::io;
 
 /// How the ends of a call last failed, each of them that has.

@@ -6,17 +6,11 @@ ghost use Rattle.std.specs.Process.{exit_status};
 ghost use Rattle.command_server.specs.Status.{number_of};
 
 mod explain;
-mod failure;
-mod file_media;
-mod image;
-mod pages;
-#[cfg(test)]
-mod tests;
 mod words;
 
 use command_server::{Status, run};
 use explain::{Failures, explain};
-use file_media::FileMedia;
+use media_files::FileMedia;
 use std::process::ExitCode;
 use wire_ends::{StdSink, StdSource};
 

@@ -1,6 +1,6 @@
 //! The files of the system, as images.
-use crate::file_media::FileMedia;
 use disk_model::{Disk, Media, OpenFault};
+use media_files::FileMedia;
 use std::test::Fail;
 use std::{env, fs, io};
 use vol_numbers::{Block, FaultCount};
@@ -166,7 +166,7 @@ fn ends_so(rt: &HostRuntime, media: &mut FileMedia, path: &str, step: &Step) -> 
         Step::IsMade(count, byte) => is_made(rt, path, *count, *byte),
         Step::Holds(blocks) => holds(rt, path, blocks),
         Step::IsAbsent => is_absent(rt, path),
-        Step::Faults(faults) => is_count(media.faults, *faults),
+        Step::Faults(faults) => is_count(media.faults(), *faults),
     }
 }
 
@@ -210,7 +210,7 @@ fn only_one_has_the_image(rt: HostRuntime) -> Result<(), Fail> {
 /// Whether nothing at this path opens, and that is told.
 fn is_no_file(rt: &HostRuntime, path: &str) -> bool {
     let mut media = FileMedia::new(*rt);
-    is_refused(&mut media, path, None) && is_count(media.faults, 1)
+    is_refused(&mut media, path, None) && is_count(media.faults(), 1)
 }
 
 #[test]

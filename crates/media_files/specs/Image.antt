@@ -1,7 +1,7 @@
 -- What no call changes of a medium over files.
 use Rattle.std.specs.Prelude.{ℕ, Option, Some, None}
 use Rattle.disk_model.specs.Media.{Fixed, of_size}
-use Rattle.idedup_tool.specs.declared.image.Image.{Image}
+use Rattle.media_files.specs.declared.image.Image.{Image}
 
 -- how many blocks the open image has; with nothing open there are none
 abbrev pub count_of : Option Image → ℕ

@@ -13,7 +13,7 @@ use vol_numbers::{Block, BlockNo, FaultCount};
 pub struct FileMedia {
     rt: HostRuntime,
     image: Option<Image>,
-    pub(crate) faults: FaultCount,
+    faults: FaultCount,
     given: LastRead,
     failure: Option<Failure>,
 }
@@ -21,7 +21,7 @@ pub struct FileMedia {
 impl FileMedia {
     ghost use Rattle.vol_numbers.specs.Block.{zero_block};
     ghost use Rattle.disk_model.specs.Media.{of_size};
-    ghost use Rattle.idedup_tool.specs.Image.{count_of};
+    ghost use Rattle.media_files.specs.Image.{count_of};
 
     /// Opens nothing: there are 0 blocks.
     pub fn new(rt: HostRuntime) -> FileMedia
@@ -38,8 +38,15 @@ impl FileMedia {
         }
     }
 
+    /// How many calls have failed.
+    pub fn faults(&self) -> FaultCount
+        ensures { result ≡ ⟦<FileMedia as Disk>⟧.faults self.now }
+    {
+        self.faults
+    }
+
     /// How the last call that failed did so, if one has.
-    pub(crate) fn failure(&self) -> Option<Failure> {
+    pub fn failure(&self) -> Option<Failure> {
         self.failure
     }
 
@@ -79,7 +86,7 @@ fn noted(
 impl Disk for FileMedia {
     ghost use Rattle.std.specs.Prelude.{false};
     ghost use Rattle.disk_model.specs.Disk.{blank};
-    ghost use Rattle.idedup_tool.specs.Image.{fixed_of};
+    ghost use Rattle.media_files.specs.Image.{fixed_of};
 
     ghost fixed = { λ m. fixed_of m.image };
 

@@ -6,7 +6,7 @@ use vol_numbers::BlockNo;
 
 /// What was asked of the system.
 #[derive(Clone, Copy, Debug, PartialEq, Eq)]
-pub(crate) enum ImageCall {
+pub enum ImageCall {
     /// To open the file for reading and writing.
     Open,
     /// To lock it, so that no other server has it.
@@ -29,7 +29,7 @@ pub(crate) enum ImageCall {
 
 /// A call that failed, with the system's words for it.
 #[derive(Clone, Copy, Debug)]
-pub(crate) struct Failure {
+pub struct Failure {
     call: ImageCall,
     error: io::Error,
 }
