@@ -38,7 +38,10 @@ at_once() {
 echo 'A format and a session, at once: the same code as it is compiled without a proof (about half a minute).'
 printf '\n$ idedup format v --blocks 2048 --log 64; idedup serve v <<end of input\n'
 printf '%s\n' "${first[@]}" 'end of input'
-at_once | (cd "$top/crates/server_rows" && rt try) | grep -v '^checked: \|^run='
+if ! at_once | (cd "$top/crates/server_rows" && rt try 2>"$scratch/tried"); then
+    cat "$scratch/tried" >&2
+    exit 1
+fi
 printf '\nNothing of that was proved. From here on it is the proved program, on files.\n'
 
 idedup format v --blocks 2048 --log 64
