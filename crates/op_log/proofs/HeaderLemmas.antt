@@ -1,21 +1,20 @@
--- What is written behind the first bytes of a block.
-use Rattle.std.proofs.Common.{◌≡◌, ◌∙◌, ◌+◌, ◌-◌, ◌≤◌, ℕ, List, [], ◌∷◌, ◌++◌, length, take, drop, refl, sym, ap, arith}
+-- The parts of a header, and of a block.
+use Rattle.std.proofs.Common.{◌≡◌, ◌∙◌, ◌-◌, ℕ, List, [], ◌∷◌, ◌++◌, length, take, drop, refl, sym, ap, arith}
 use Rattle.std.specs.Prelude.{replicate}
-use Rattle.std.proofs.lemmas.List.{append_assoc, drop_at, drop-replicate, length-append, length-take-le}
+use Rattle.std.proofs.lemmas.List.{append_assoc, drop_at, take_at, drop-replicate, length-append}
 use borrow.Rule.Slice.PartMut.{put_mid}
 use Rattle.byteorder.specs.Endian.{little_bytes}
 use Rattle.op_log.specs.Record.{filled, header}
 
-pub put_more : (len k : ℕ) (bytes more : List ℕ) → length bytes ≡ 4096 → len + length more ≤ 4096 → k ≡ length more → bytes ≡ filled (take len bytes)
-    → put_mid len k bytes more ≡ filled (take len bytes ++ more)
-put_more len k bytes more long room is zeros =
-    let front : List ℕ = take len bytes in
-    let front_len : length front ≡ len = length-take-le len bytes (omega arith) in
-    let behind : drop len bytes ≡ replicate (4096 - length front) 0 = ap (λ (l : List ℕ). drop len l) zeros ∙ drop_at front (replicate (4096 - length front) 0) len front_len in
-    let rest : drop k (drop len bytes) ≡ replicate (4096 - length front - k) 0 = ap (λ (l : List ℕ). drop k l) behind ∙ drop-replicate k (4096 - length front) 0 in
-    let same : 4096 - length front - k ≡ 4096 - length (front ++ more) = omega (arith, length-append front more) in
-    let zeros_left : drop k (drop len bytes) ≡ replicate (4096 - length (front ++ more)) 0 = rest ∙ ap (λ (n : ℕ). replicate n 0) same in
-    ap (λ (l : List ℕ). front ++ (more ++ l)) {y = replicate (4096 - length (front ++ more)) 0} zeros_left ∙ sym (append_assoc front more (replicate (4096 - length (front ++ more)) 0))
+-- the second part of a block, over the zeros behind the first
+pub rest_written : (front rest : List ℕ) (k : ℕ) → k ≡ length rest → put_mid (length front) k (filled front) rest ≡ filled (front ++ rest)
+rest_written front rest k is =
+    let zeros : List ℕ = replicate (4096 - length front) 0 in
+    let at_front : take (length front) (front ++ zeros) ≡ front = take_at front zeros (length front) refl in
+    let behind : drop k (drop (length front) (front ++ zeros)) ≡ replicate (4096 - length front - k) 0 = ap (drop k) (drop_at front zeros (length front) refl) ∙ drop-replicate k (4096 - length front) 0 in
+    let same : 4096 - length front - k ≡ 4096 - length (front ++ rest) = omega (arith, length-append front rest) in
+    let left : drop k (drop (length front) (front ++ zeros)) ≡ replicate (4096 - length (front ++ rest)) 0 = behind ∙ ap (λ (n : ℕ). replicate n 0) same in
+    (λ i. at_front i ++ (rest ++ left i)) ∙ sym (append_assoc front rest (replicate (4096 - length (front ++ rest)) 0))
 
 -- the parts of a header, one behind the other
 pub header_written : (d0 d1 d2 d3 d4 d5 : List ℕ) (kind path_length number rest_length : ℕ) → d0 ≡ [] → d1 ≡ d0 ++ (kind ∷ 0 ∷ 0 ∷ 0 ∷ []) → d2 ≡ d1 ++ little_bytes 4 path_length
