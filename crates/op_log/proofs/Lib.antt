@@ -1,5 +1,5 @@
 pub mod ChangeLemmas
-pub mod DraftLemmas
+pub mod HeaderLemmas
 pub mod LogLemmas
 pub mod NameLemmas
 pub mod PathLemmas

@@ -29,15 +29,15 @@ path_length-more (name ∷ names) zero d lt = omega arith
 path_length-more (name ∷ names) (suc i) d lt = omega (arith, path_length-more names i d (omega arith))
 
 -- there is room for one name more
-pub room_for_name : (start draft : List ℕ) (items : Path) (i : ℕ) (d : List ℕ) → draft ≡ start ++ path_bytes (take i items) → i < length items
-    → length draft + 1 + length (get_or items i d) ≤ length start + path_length items
-room_for_name start draft items i d is lt =
+pub room_for_name : (start head : List ℕ) (items : Path) (i : ℕ) (d : List ℕ) → head ≡ start ++ path_bytes (take i items) → i < length items
+    → length head + 1 + length (get_or items i d) ≤ length start + path_length items
+room_for_name start head items i d is lt =
     omega (arith, ap length is, length-append start (path_bytes (take i items)), length-path_bytes (take i items), path_length-more items i d lt)
 
 -- a slash and a name more are written
-pub written_more : (start draft mid after : List ℕ) (items : Path) (i : ℕ) (name : List ℕ) → draft ≡ start ++ path_bytes (take i items) → i < length items → name ≡ get_or items i name
-    → mid ≡ draft ++ 47 ∷ [] → after ≡ mid ++ name → after ≡ start ++ path_bytes (take (i + 1) items)
-written_more start draft mid after items i name is lt name_is slash end =
+pub written_more : (start head mid after : List ℕ) (items : Path) (i : ℕ) (name : List ℕ) → head ≡ start ++ path_bytes (take i items) → i < length items → name ≡ get_or items i name
+    → mid ≡ head ++ 47 ∷ [] → after ≡ mid ++ name → after ≡ start ++ path_bytes (take (i + 1) items)
+written_more start head mid after items i name is lt name_is slash end =
     let before : List ℕ = path_bytes (take i items) in
     end ∙ ap (λ (l : List ℕ). l ++ name) (slash ∙ ap (λ (l : List ℕ). l ++ 47 ∷ []) is)
     ∙ append_assoc (start ++ before) (47 ∷ []) name ∙ append_assoc start before (47 ∷ name)

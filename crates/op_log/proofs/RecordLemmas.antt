@@ -12,7 +12,7 @@ use Rattle.tree_model.specs.declared.command.Command.TheVariants.{Mkdir, Create,
 use Rattle.op_log.specs.Record.{Fields, HasRecord, IsLogPath, blocks_for, fields_of, filled, header, path_bytes, record_block, record_blocks, record_text, text_block, text_of}
 use Rattle.op_log.specs.Reading.{fields_in, head_in, HasLimits, Spells}
 use Rattle.op_log.specs.declared.head.Head.{Head}
-use Rattle.op_log.proofs.DraftLemmas.{length-header}
+use Rattle.op_log.proofs.HeaderLemmas.{length-header}
 use Rattle.op_log.proofs.PathLemmas.{length-path_bytes}
 use Rattle.op_log.proofs.PieceLemmas.{take-append-over}
 

@@ -57,7 +57,7 @@ fn write_blocks<D: Disk>(
 ) -> Result<(), DiskFault>
     requires room { first + count ≤ (D.fixed disk.old).size }
     requires fits { first + count ≤ 65536 }
-    ensures stand { OnOk result (IsTrue D.tells → (i : ℕ) → i < count → slice_get (D.state disk.new).contents (first + i) ≡ Some (text_block (spelling.now.head ++ spelling.now.payload.now) i)) }
+    ensures stand { OnOk result (IsTrue D.tells → (i : ℕ) → i < count → slice_get (D.state disk.new).contents (first + i) ≡ Some (text_block (spelling.now.head.items ++ spelling.now.payload.now) i)) }
     ensures joined { OnOk result (IsTrue D.tells → (i : ℕ) → i < count → is_among (D.state disk.new).unsynced (first + i) ≡ true) }
     ensures changes { IsTrue D.tells → ChangesWithin first count (D.state disk.old) (D.state disk.new) }
     ensures during { IsTrue D.tells → Adds (D.past disk.old) (D.past disk.new) (ChangesWithin first count (D.state disk.old)) }

@@ -4,7 +4,6 @@
 mod appending;
 mod blocks;
 mod decoding;
-mod draft;
 mod fault;
 mod head;
 mod laws;

@@ -1,17 +1,22 @@
 //! A record as it is written, block by block.
 ghost use Rattle.std.specs.Prelude.{◌≡◌, ◌≢◌, ◌≤◌, ◌+◌, ◌-◌, ◌*◌, ◌++◌, [], length, take, drop};
+ghost use Rattle.byteorder.specs.Endian.{little_bytes};
 ghost use Rattle.vol_numbers.specs.Name.{IsName};
 ghost use Rattle.tree_model.specs.Path.{IsPath};
 ghost use Rattle.op_log.specs.Record.{IsLogged, IsLogPath, HasRecord, header, path_bytes, record_text, record_blocks, record_block, text_block, filled};
 
-use crate::draft::Draft;
+use arrayvec::ArrayVec;
+use byteorder::{ByteOrder, LittleEndian};
 use tree_model::{Command, Path};
 use vol_numbers::{BLOCK_SIZE, Block};
+
+/// What a record has before its data: 24 bytes, and at most two paths of 1,024 bytes each. It takes no memory.
+pub(crate) type HeadBytes = ArrayVec<u8, 2_072>;
 
 /// What stands before the data of a write, and that data. Of any other command there is no data.
 #[derive(Drop)]
 pub(crate) struct Spelling<'a> {
-    pub(crate) head: Draft,
+    pub(crate) head: HeadBytes,
     pub(crate) payload: &'a [u8],
 }
 
@@ -19,9 +24,8 @@ impl<'a> Spelling<'a> {
     /// The spelling of a command.
     pub(crate) fn of(command: &'a Command) -> Spelling<'a>
         requires { IsLogged command.now }
-        ensures text { result.head ++ result.payload.now ≡ record_text command.now }
+        ensures text { result.head.items ++ result.payload.now ≡ record_text command.now }
         ensures has_record { HasRecord command.now }
-        ensures short { length result.head ≤ 4096 }
     {
         match command {
             Command::Mkdir { path } => Spelling::without_payload(head(1, 0, path, 0)),
@@ -44,7 +48,7 @@ impl<'a> Spelling<'a> {
         }
     }
 
-    fn without_payload(head: Draft) -> Spelling<'a>
+    fn without_payload(head: HeadBytes) -> Spelling<'a>
         ensures head { result.head ≡ head }
         ensures payload { result.payload.now ≡ [] }
     {
@@ -53,10 +57,10 @@ impl<'a> Spelling<'a> {
 
     /// The i-th block.
     pub(crate) fn block(&self, i: u32) -> Block
-        ensures { result.bytes ≡ filled (take 4096 (drop (4096 * i) (self.now.head ++ self.now.payload.now))) }
+        ensures { result.bytes ≡ filled (take 4096 (drop (4096 * i) (self.now.head.items ++ self.now.payload.now))) }
     {
         if i == 0 {
-            first_block(&self.head, self.payload)
+            first_block(self.head.as_slice(), self.payload)
         } else {
             later_block(self.head.len(), self.payload, i)
         }
@@ -64,14 +68,12 @@ impl<'a> Spelling<'a> {
 }
 
 /// The block that begins with what stands before the data.
-fn first_block(head: &Draft, payload: &[u8]) -> Block
+fn first_block(head: &[u8], payload: &[u8]) -> Block
+    requires { length head.now ≤ 4096 }
     ensures { result.bytes ≡ filled (take 4096 (head.now ++ payload.now)) }
 {
-    let mut draft = Draft::new();
-    draft.put(head.as_slice());
     let room = BLOCK_SIZE - head.len();
-    draft.put(&payload[..room.min(payload.len())]);
-    draft.block()
+    block_of(head, &payload[..room.min(payload.len())])
 }
 
 /// A block behind the first one, which has a part of the data.
@@ -82,56 +84,94 @@ fn later_block(head_len: usize, payload: &[u8], i: u32) -> Block
 {
     let from = (BLOCK_SIZE * i as usize - head_len).min(payload.len());
     let part = &payload[from..];
-    let mut draft = Draft::new();
-    draft.put(&part[..BLOCK_SIZE.min(part.len())]);
-    draft.block()
+    block_of(&[], &part[..BLOCK_SIZE.min(part.len())])
+}
+
+/// A block of these bytes and those, with zeros behind them.
+fn block_of(front: &[u8], rest: &[u8]) -> Block
+    requires { length front.now + length rest.now ≤ 4096 }
+    ensures { result.bytes ≡ filled (front.now ++ rest.now) }
+{
+    let at = front.len();
+    let mut bytes = [0; BLOCK_SIZE];
+    bytes[..at].copy_from_slice(front);
+    bytes[at..at + rest.len()].copy_from_slice(rest);
+    Block { bytes }
 }
 
 /// What a record has before data of so many bytes.
-fn head(kind: u8, number: u64, path: &Path, rest_len: u32) -> Draft
-    ensures is { result ≡ header kind (length (path_bytes path.now)) number rest_len ++ path_bytes path.now }
-    ensures short { length result ≤ 1048 }
+fn head(kind: u8, number: u64, path: &Path, rest_len: u32) -> HeadBytes
+    ensures is { result.items ≡ header kind (length (path_bytes path.now)) number rest_len ++ path_bytes path.now }
+    ensures short { length result.items ≤ 1048 }
     ensures path { path.now ≢ [] → IsLogPath path.now }
 {
-    let mut draft = header(kind, path.length() as u32, number, rest_len);
-    put_path(&mut draft, path);
-    draft
+    let mut head = header(kind, path.length() as u32, number, rest_len);
+    put_path(&mut head, path);
+    head
 }
 
 /// What a record has before its path.
-fn header(kind: u8, path_len: u32, number: u64, rest_len: u32) -> Draft
-    ensures is { result ≡ header kind path_len number rest_len }
-    ensures short { length result ≡ 24 }
+fn header(kind: u8, path_len: u32, number: u64, rest_len: u32) -> HeadBytes
+    ensures is { result.items ≡ header kind path_len number rest_len }
+    ensures short { length result.items ≡ 24 }
 {
-    let mut draft = Draft::new();
-    draft.put(&[kind, 0, 0, 0]);
-    draft.put_u32(path_len);
-    draft.put_u64(number);
-    draft.put_u32(rest_len);
-    draft.put(&[0; 4]);
-    draft
+    let mut head = HeadBytes::new();
+    put(&mut head, &[kind, 0, 0, 0]);
+    put_u32(&mut head, path_len);
+    put_u64(&mut head, number);
+    put_u32(&mut head, rest_len);
+    put(&mut head, &[0; 4]);
+    head
 }
 
 /// All of the record of a rename.
-fn rename_head(from: &Path, to: &Path) -> Draft
-    ensures is { result ≡ header 6 (length (path_bytes from.now)) 0 (length (path_bytes to.now)) ++ path_bytes from.now ++ path_bytes to.now }
+fn rename_head(from: &Path, to: &Path) -> HeadBytes
+    ensures is { result.items ≡ header 6 (length (path_bytes from.now)) 0 (length (path_bytes to.now)) ++ path_bytes from.now ++ path_bytes to.now }
     ensures from { from.now ≢ [] → IsLogPath from.now }
     ensures to { to.now ≢ [] → IsLogPath to.now }
 {
-    let mut draft = head(6, 0, from, to.length() as u32);
-    put_path(&mut draft, to);
-    draft
+    let mut head = head(6, 0, from, to.length() as u32);
+    put_path(&mut head, to);
+    head
 }
 
 /// Writes the names of a path, each behind a slash.
-fn put_path(draft: &mut Draft, path: &Path)
-    requires { length draft.old ≤ 3072 }
-    ensures is { draft.new ≡ draft.old ++ path_bytes path.now }
+fn put_path(head: &mut HeadBytes, path: &Path)
+    requires { length head.old.items ≤ 1048 }
+    ensures is { head.new.items ≡ head.old.items ++ path_bytes path.now }
     ensures short { length (path_bytes path.now) ≤ 1024 }
     ensures path { path.now ≢ [] → IsLogPath path.now }
 {
     for name in path.names() {
-        draft.put(b"/");
-        draft.put(name.as_bytes());
+        put(head, b"/");
+        put(head, name.as_bytes());
     }
+}
+
+fn put_u32(head: &mut HeadBytes, number: u32)
+    requires { length head.old.items + 4 ≤ 2072 }
+    ensures { head.new.items ≡ head.old.items ++ little_bytes 4 number }
+{
+    let mut bytes = [0; 4];
+    LittleEndian::write_u32(&mut bytes, number);
+    put(head, &bytes);
+}
+
+fn put_u64(head: &mut HeadBytes, number: u64)
+    requires { length head.old.items + 8 ≤ 2072 }
+    ensures { head.new.items ≡ head.old.items ++ little_bytes 8 number }
+{
+    let mut bytes = [0; 8];
+    LittleEndian::write_u64(&mut bytes, number);
+    put(head, &bytes);
+}
+
+/// Writes these bytes behind the others.
+fn put(head: &mut HeadBytes, more: &[u8])
+    requires { length head.old.items + length more.now ≤ 2072 }
+    ensures { head.new.items ≡ head.old.items ++ more.now }
+{
+    let Ok(()) = head.try_extend_from_slice(more) else {
+        unreachable!()
+    };
 }

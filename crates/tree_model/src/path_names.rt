@@ -39,18 +39,7 @@ pub fn parent_names(path: &[Name]) -> &[Name]
 pub fn strip<'a>(front: &[Name], path: &'a [Name]) -> Option<&'a [Name]>
     ensures { option_copied result ≡ strip front.now path.now }
 {
-    for i in 0..front.len() {
-        if i >= path.len() {
-            return None;
-        }
-        if front[i].as_bytes() != path[i].as_bytes() {
-            return None;
-        }
-    }
-    if front.len() > path.len() {
-        return None;
-    }
-    Some(&path[front.len()..])
+    path.strip_prefix(front)
 }
 
 /// The names of one list and then those of another.

@@ -36,7 +36,7 @@ loop-i-preserved g c =
     let first : ℕ = c.args.first in
     let i : ℕ = c.loop-i.i in
     let so_far = c.loop-i.invariant in
-    let text : List ℕ = c.args.spelling.now.head ++ c.args.spelling.now.payload.now in
+    let text : List ℕ = c.args.spelling.now.head.items ++ c.args.spelling.now.payload.now in
     record {
       stand = λ tells.
           let room : first + i < length m.contents = omega (arith, g.met.D.Disk.has_size c.loop-i.disk tells, ap (λ (f : Fixed). f.size) so_far.fixed, c.requires.room, c.loop-i-test.true) in

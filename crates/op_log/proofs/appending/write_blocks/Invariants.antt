@@ -8,7 +8,7 @@ use Rattle.op_log.proofs.appending.write_blocks.Given as goal
 
 abbrev pub invariant-loop-i : goal.invariant-loop-i
 invariant-loop-i g l = record {
-  stand : IsTrue g.D.Disk.tells → (k : ℕ) → k < l.i → slice_get (g.D.Disk.state l.disk).contents (l.first + k) ≡ Some (text_block (l.spelling.head ++ l.spelling.payload.now) k);
+  stand : IsTrue g.D.Disk.tells → (k : ℕ) → k < l.i → slice_get (g.D.Disk.state l.disk).contents (l.first + k) ≡ Some (text_block (l.spelling.head.items ++ l.spelling.payload.now) k);
   joined : IsTrue g.D.Disk.tells → (k : ℕ) → k < l.i → is_among (g.D.Disk.state l.disk).unsynced (l.first + k) ≡ true;
   changes : IsTrue g.D.Disk.tells → ChangesWithin l.first l.count (g.D.Disk.state l.fn.disk) (g.D.Disk.state l.disk);
   during : IsTrue g.D.Disk.tells → Adds (g.D.Disk.past l.fn.disk) (g.D.Disk.past l.disk) (ChangesWithin l.first l.count (g.D.Disk.state l.fn.disk));

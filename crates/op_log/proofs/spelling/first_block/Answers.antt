@@ -8,8 +8,5 @@ pub returns : goal.returns
 returns c =
     let head : List ℕ = c.args.head.now in
     let payload : List ℕ = c.args.payload.now in
-    let front : c.put.new.self ≡ head = c.put.ensures ∙ ap (λ (l : List ℕ). l ++ c.as_slice.result.now) c.new-draft.ensures ∙ c.as_slice.ensures.is in
-    let part : take c.min.result payload ≡ take (4096 - length head) payload =
-    ap (λ (n : ℕ). take n payload) c.min.ensures ∙ take_min (4096 - c.len-room.result) payload ∙ ap (λ (n : ℕ). take (4096 - n) payload) c.len-room.ensures.is in
-    c.block.ensures ∙ ap filled (c.put-2.ensures ∙ ap (λ (l : List ℕ). l ++ take c.min.result payload) front ∙ ap (λ (l : List ℕ). head ++ l) part
-    ∙ sym (take-append-over 4096 head payload c.as_slice.ensures.at_most))
+    let part : take c.min.result payload ≡ take (4096 - length head) payload = ap (λ (n : ℕ). take n payload) c.min.ensures ∙ take_min (4096 - length head) payload in
+    c.block_of.ensures ∙ ap filled (ap (λ (l : List ℕ). head ++ l) part ∙ sym (take-append-over 4096 head payload c.requires))

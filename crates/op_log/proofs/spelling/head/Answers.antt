@@ -7,4 +7,4 @@ pub returns-clause-is : goal.returns-clause-is
 returns-clause-is c =
     let path : List (List ℕ) = c.args.path.now in
     let long : c.length.result ≡ length (path_bytes path) = c.length.ensures.is ∙ sym (length-path_bytes path) in
-    c.put_path.ensures.is ∙ ap (λ (l : List ℕ). l ++ path_bytes path) (c.header-draft.ensures.is ∙ ap (λ (n : ℕ). header c.args.kind n c.args.number c.args.rest_len) long)
+    c.put_path.ensures.is ∙ ap (λ (l : List ℕ). l ++ path_bytes path) (c.header-head.ensures.is ∙ ap (λ (n : ℕ). header c.args.kind n c.args.number c.args.rest_len) long)

@@ -6,6 +6,6 @@ use Rattle.op_log.proofs.spelling.put_path.Given as goal
 
 abbrev pub invariant-loop-name : goal.invariant-loop-name
 invariant-loop-name l = record {
-  written : l.draft ≡ l.fn.draft ++ path_bytes (take l.name-index l.name-items);
+  written : l.head.items ≡ l.fn.head.items ++ path_bytes (take l.name-index l.name-items);
   names : All IsName (take l.name-index l.name-items);
 }
