@@ -1,0 +1,5 @@
+pub mod RunLaws
+pub mod StepLaws
+pub mod SearchLaws
+pub mod RuleLaws
+pub mod ZeroLaws

@@ -1,0 +1,4 @@
+pub mod Runs
+pub mod Taken
+pub mod Steps
+pub mod Rows

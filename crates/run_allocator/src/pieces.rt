@@ -1,0 +1,152 @@
+//! Pieces of free runs: which the rule takes, and the taking.
+ghost use Rattle.std.specs.Prelude.{◌≡◌, ◌<◌, ◌≤◌, length, IfOk, OnErr, List};
+ghost use Rattle.vol_numbers.specs.declared.runs.Run.{Run};
+ghost use Rattle.run_allocator.specs.Runs.{AreApart, numbers_of};
+ghost use Rattle.run_allocator.specs.Taken.{front};
+ghost use Rattle.run_allocator.specs.Steps.{IsFront, IsPiece, IsStep, AreSteps, take_at};
+
+use std::alloc::{AllocError, Global};
+use std::collections::VecDeque;
+use vol_numbers::Run;
+
+/// The lowest blocks of a run: its index among the runs, the run, and how many.
+#[derive(Clone, Copy, Debug, PartialEq, Eq)]
+pub(crate) struct Piece {
+    pub index: usize,
+    pub run: Run,
+    pub length: u32,
+}
+
+impl Piece {
+    /// The blocks of the piece.
+    fn blocks(self) -> Run
+        ensures { result ≡ front self.run self.length }
+    {
+        Run {
+            first: self.run.first,
+            length: self.length,
+        }
+    }
+}
+
+/// Takes n blocks. A failure leaves the runs as they were.
+pub(crate) fn take_pieces(
+    alloc: Global,
+    runs: &mut VecDeque<Run>,
+    n: u32,
+) -> Result<Vec<Run>, AllocError>
+    requires apart { AreApart 1 runs.old.items }
+    requires n { 1 ≤ n }
+    requires enough { n ≤ length (numbers_of runs.old.items) }
+    ensures taken { IfOk result (λ taken. AreSteps runs.old.items n taken.items runs.new.items) }
+    ensures unchanged { OnErr result (runs.new.items ≡ runs.old.items) }
+{
+    let piece = find_piece(runs, n);
+    if piece.length == n {
+        return take_one_piece(alloc, runs, piece);
+    }
+    let mut rest = copied(alloc, runs)?;
+    let taken = take_many(alloc, &mut rest, n)?;
+    *runs = rest;
+    Ok(taken)
+}
+
+/// Takes a piece that is all that is asked for. The memory is taken before.
+fn take_one_piece(
+    alloc: Global,
+    runs: &mut VecDeque<Run>,
+    piece: Piece,
+) -> Result<Vec<Run>, AllocError>
+    requires apart { AreApart 1 runs.old.items }
+    requires piece { IsPiece runs.old.items piece.length piece }
+    ensures taken { IfOk result (λ taken. AreSteps runs.old.items piece.length taken.items runs.new.items) }
+    ensures unchanged { OnErr result (runs.new.items ≡ runs.old.items) }
+{
+    let mut taken = Vec::new(alloc);
+    taken.push(piece.blocks())?;
+    cut(runs, piece);
+    Ok(taken)
+}
+
+/// The same runs, in memory of their own.
+fn copied(alloc: Global, runs: &VecDeque<Run>) -> Result<VecDeque<Run>, AllocError>
+    ensures { IfOk result (λ copy. copy.items ≡ runs.now.items) }
+{
+    let (front, back) = runs.as_slices();
+    let mut copy = Vec::from_slice(alloc, front)?;
+    copy.extend_from_slice(back)?;
+    Ok(VecDeque::from_vec(copy))
+}
+
+/// Takes n blocks piece by piece.
+fn take_many(alloc: Global, runs: &mut VecDeque<Run>, n: u32) -> Result<Vec<Run>, AllocError>
+    requires apart { AreApart 1 runs.old.items }
+    requires enough { n ≤ length (numbers_of runs.old.items) }
+    ensures { IfOk result (λ taken. AreSteps runs.old.items n taken.items runs.new.items) }
+{
+    let mut taken = Vec::new(alloc);
+    let mut left = n;
+    while left > 0 {
+        let blocks = take_piece(runs, left);
+        taken.push(blocks)?;
+        left -= blocks.length;
+    }
+    Ok(taken)
+}
+
+/// Takes the next piece for n blocks.
+fn take_piece(runs: &mut VecDeque<Run>, n: u32) -> Run
+    requires apart { AreApart 1 runs.old.items }
+    requires some { 1 ≤ length runs.old.items }
+    requires n { 1 ≤ n }
+    ensures { IsStep runs.old.items n result runs.new.items }
+{
+    let piece = find_piece(runs, n);
+    cut(runs, piece);
+    piece.blocks()
+}
+
+/// Takes a piece off its run.
+fn cut(runs: &mut VecDeque<Run>, piece: Piece)
+    requires { IsFront runs.old.items piece }
+    ensures { runs.new.items ≡ take_at runs.old.items piece.index piece.length }
+{
+    if piece.length == piece.run.length {
+        runs.remove(piece.index);
+        return;
+    }
+    runs[piece.index] = Run {
+        first: piece.run.first + piece.length,
+        length: piece.run.length - piece.length,
+    };
+}
+
+/// The piece that the rule takes for n blocks: of the first run that is long enough, or else the longest run, the first among equals.
+fn find_piece(runs: &VecDeque<Run>, n: u32) -> Piece
+    requires apart { AreApart 1 runs.now.items }
+    requires some { 1 ≤ length runs.now.items }
+    requires n { 1 ≤ n }
+    ensures { IsPiece runs.now.items n result }
+{
+    let mut index = 0;
+    let mut longest = runs[0];
+    for i in 0..runs.len() {
+        let run = runs[i];
+        if n <= run.length {
+            return Piece {
+                index: i,
+                run,
+                length: n,
+            };
+        }
+        if longest.length < run.length {
+            index = i;
+            longest = run;
+        }
+    }
+    Piece {
+        index,
+        run: longest,
+        length: longest.length,
+    }
+}

@@ -1,0 +1,15 @@
+//! The rule of runs: what it gives of a set that is written out, and that it gives one list of runs.
+ghost use Rattle.std.specs.Prelude.{◌≡◌, ◌≤◌, ℕ, List, length};
+ghost use Rattle.vol_numbers.specs.declared.runs.Run.{Run};
+ghost use Rattle.run_allocator.specs.Rows.{EightRows};
+ghost use Rattle.run_allocator.specs.Taken.{AreTaken, taken_runs};
+
+/// The rule for eight free blocks in three runs.
+pub fn eight_free()
+    ensures { EightRows }
+{}
+
+/// Runs that are taken one after the other by the rule are those that `taken_runs` computes, and so no others are.
+pub fn taken_runs_are_the_rule()
+    ensures { (free : List ℕ) (n : ℕ) (runs : List Run) → n ≤ length free → AreTaken free n runs → runs ≡ taken_runs free n }
+{}
