@@ -87,26 +87,30 @@ fn is_wanted(reply: &Reply, want: Want) -> bool {
     }
 }
 
-fn steps_as(tree: &mut PlainTree, command: &Command, want: Want) -> Result<bool, Fail> {
+fn steps_as(tree: &mut PlainTree, command: &Command, want: &Want) -> Result<bool, Fail> {
     if !command.is_plain() {
         return Ok(false);
     }
-    if told(tree.refusal(command)) != number_in(want) {
+    if told(tree.refusal(command)) != number_in(*want) {
         return Ok(false);
     }
     let reply = tree.step(command)?;
-    Ok(is_wanted(&reply, want))
+    Ok(is_wanted(&reply, *want))
 }
 
-fn steps_of(tree: &mut PlainTree, made: Result<Command, Fail>, want: Want) -> Result<bool, Fail> {
+fn steps_with(tree: &mut PlainTree, command: Command, want: &Want) -> Result<bool, Fail> {
+    steps_as(tree, &command, want)
+}
+
+fn steps_of(tree: &mut PlainTree, made: Result<Command, Fail>, want: &Want) -> Result<bool, Fail> {
     match made {
-        Ok(command) => steps_as(tree, &command, want),
+        Ok(command) => steps_with(tree, command, want),
         Err(fail) => Err(fail),
     }
 }
 
 fn goes(alloc: Global, tree: &mut PlainTree, act: Act, want: Want) -> Result<bool, Fail> {
-    steps_of(tree, command(alloc, act), want)
+    steps_of(tree, command(alloc, act), &want)
 }
 
 fn goes_on(alloc: Global, tree: &mut PlainTree, rows: &[Row]) -> Result<bool, Fail> {
