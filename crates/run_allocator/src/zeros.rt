@@ -23,7 +23,8 @@ pub(crate) fn runs_of_zeros(
     let mut runs = VecDeque::new(alloc);
     let mut free = 0;
     for b in (start..counts.len() as u32).rev() {
-        if counts[b as usize] == 0 {
+        let count = counts[b as usize];
+        if count == 0 {
             put_below(&mut runs, b)?;
             free += 1;
         }
