@@ -78,6 +78,7 @@ impl FreeMap {
         ensures taken { IfOk result (λ runs. runs ≡ taken_runs self.old n) }
         ensures left { IfOk result (λ runs. self.new ≡ left_without self.old runs) }
         ensures short { (free : ℕ) → IsErrOf result (Short free) → (free ≡ length self.old) × (length self.old < n) }
+        ensures too_few { length self.old < n → IsErrOf result (Short (length self.old)) }
         ensures enough { IfOk result (λ runs. n ≤ length self.old) }
         ensures unchanged { OnErr result (self.new ≡ self.old) }
     {
