@@ -34,9 +34,6 @@ fit_none n runs i past so_far = sym so_far ∙ ap (first_fit n) (drop_all i runs
 
 -- ---- the longest
 
-pick : Run → Run → Bool → Option Run
-pick r s t = if t then Some s else Some r
-
 pick_left : (r s : Run) → s.length ≤ r.length → longer r (Some s) ≡ Some r
 pick_left r s le = ap (λ (t : Bool). if t then Some s else Some r) (let t : nat_lt r.length s.length ≡ false = grind (arith, nat_tests, le) in t)
 

@@ -1,6 +1,6 @@
 -- Runs that are apart, and the numbers that they cover.
-use Rattle.std.proofs.Common.{◌≡◌, ◌<◌, ◌≤◌, ℕ, zero, suc, ◌+◌, ◌-◌, ◌==◌, Bool, true, false, List, [], ◌∷◌, ◌++◌, length, get_or, set, drop, refl, ap, sym, ◌∙◌, subst, arith}
-use Rattle.std.specs.Prelude.{slice_get, Some, None, Option, nat_le, nat_lt, not, if◌then◌else◌}
+use Rattle.std.proofs.Common.{◌≡◌, ◌<◌, ◌≤◌, ℕ, zero, suc, ◌+◌, ◌-◌, ◌==◌, Bool, true, false, List, [], ◌∷◌, ◌++◌, length, set, refl, ap, sym, ◌∙◌, subst, arith}
+use Rattle.std.specs.Prelude.{slice_get, Some, None, nat_le, not, if◌then◌else◌}
 use Rattle.std.specs.List.{remove}
 use Rattle.std.proofs.lemmas.Bool.Decides.{nat_tests}
 use Rattle.std.proofs.lemmas.List.{length-append}
@@ -9,7 +9,7 @@ use Rattle.vol_numbers.specs.declared.runs.Run.{Run}
 use Rattle.run_allocator.specs.Runs.{numbers_from, numbers_of, AreApart, covers, outside}
 use Rattle.run_allocator.specs.Taken.{with_number, runs_of, first_fit, longest, front, step_or}
 use Rattle.run_allocator.specs.Taken.{AreTaken, done, more}
-use Rattle.run_allocator.specs.Steps.{take_at, IsFront, IsPiece, IsStep, AreSteps}
+use Rattle.run_allocator.specs.Steps.{take_at, IsPiece, IsStep, AreSteps}
 use Rattle.run_allocator.specs.declared.pieces.Piece.{Piece}
 use Rattle.run_allocator.proofs.RunLaws.{apart_lower, length-numbers_from}
 

@@ -1,8 +1,8 @@
 -- The runs of the zeros of a list of counts, put together from above.
-use Rattle.std.proofs.Common.{◌≡◌, ◌<◌, ◌≤◌, ℕ, zero, suc, ◌+◌, ◌-◌, ◌==◌, Bool, true, false, List, [], ◌∷◌, ◌++◌, length, get_or, set, drop, refl, ap, sym, ◌∙◌, arith}
+use Rattle.std.proofs.Common.{◌≡◌, ◌<◌, ◌≤◌, ℕ, suc, ◌+◌, ◌-◌, ◌==◌, Bool, true, false, List, [], ◌∷◌, ◌++◌, length, get_or, drop, refl, ap, ◌∙◌, arith}
 use Rattle.std.specs.Prelude.{if◌then◌else◌}
 use Rattle.std.proofs.lemmas.Bool.Decides.{nat_tests}
-use Rattle.std.proofs.lemmas.List.{at_drop_more, drop_all}
+use Rattle.std.proofs.lemmas.List.{at_drop_more}
 use Rattle.vol_numbers.specs.declared.runs.Run.{Run}
 use Rattle.run_allocator.specs.Runs.{numbers_from, numbers_of, AreApart, zeros_from}
 use Rattle.run_allocator.specs.Taken.{with_number}
@@ -46,28 +46,3 @@ zero_there cs b d some within is = zeros_more cs b d some within
 pub none_there : (cs : List ℕ) (b d : ℕ) → 0 < b → b ≤ length cs → (get_or cs (b - 1) d ≡ 0 → ⊥) → zeros_from (b - 1) (drop (b - 1) cs) ≡ zeros_from b (drop b cs)
 none_there cs b d some within not = zeros_more cs b d some within
     ∙ ap (λ (t : Bool). if t then (b - 1) ∷ zeros_from b (drop b cs) else zeros_from b (drop b cs)) (let t : (get_or cs (b - 1) d == 0) ≡ false = grind (arith, nat_tests, not) in t)
-
--- ---- a number below runs of which the lowest is read
-
-pub with_none : (b : ℕ) (rs : List Run) → length rs ≡ 0 → with_number b rs ≡ record { first = b; length = 1 } ∷ rs
-with_none b [] none = refl
-with_none b (r ∷ rs) none = absurd (omega arith)
-
-pub with_lower : (b : ℕ) (rs : List Run) (x : Run) → x ≡ get_or rs 0 x → 0 < length rs → (b + 1 ≡ x.first → ⊥) → with_number b rs ≡ record { first = b; length = 1 } ∷ rs
-with_lower b [] x is some other = absurd (omega arith)
-with_lower b (r ∷ rs) x is some other =
-    let first : x.first ≡ r.first = ap (λ (y : Run). y.first) is in
-    let t : (b + 1 == r.first) ≡ false = let ne : b + 1 ≡ r.first → ⊥ = λ e. other (e ∙ sym first) in grind (arith, nat_tests, ne) in
-    ap (λ (t : Bool). if t then record { first = b; length = r.length + 1 } ∷ rs else record { first = b; length = 1 } ∷ r ∷ rs) t
-
-pub with_next : (b : ℕ) (rs : List Run) (x : Run) → x ≡ get_or rs 0 x → 0 < length rs → b + 1 ≡ x.first → with_number b rs ≡ set rs 0 (record { first = b; length = x.length + 1 })
-with_next b [] x is some next = absurd (omega arith)
-with_next b (r ∷ rs) x is some next =
-    let same : b + 1 ≡ r.first = next ∙ ap (λ (y : Run). y.first) is in
-    let t : (b + 1 == r.first) ≡ true = grind (arith, nat_tests, same) in
-    ap (λ (t : Bool). if t then record { first = b; length = r.length + 1 } ∷ rs else record { first = b; length = 1 } ∷ r ∷ rs) t
-    ∙ ap (λ (y : Run). let z : Run = record { first = b; length = y.length + 1 } in z ∷ rs) (sym is)
-
-pub lowest_ends : (b : ℕ) (rs : List Run) (x : Run) → x ≡ get_or rs 0 x → 0 < length rs → AreApart b rs → x.length ≤ 65536
-lowest_ends b [] x is some are = absurd (omega arith)
-lowest_ends b (r ∷ rs) x is some are = let same : x.length ≡ r.length = ap (λ (y : Run). y.length) is in omega (arith, same, are.2)

@@ -1,5 +1,5 @@
 -- Sets of block numbers, as ascending lists and as runs.
-use Rattle.std.specs.Prelude.{◌≤◌, ℕ, zero, suc, ◌+◌, ◌-◌, ◌==◌, ◌&&◌, nat_le, nat_lt, not, Bool, if◌then◌else◌, List, [], ◌∷◌, ◌++◌, filter, drop, take}
+use Rattle.std.specs.Prelude.{◌≤◌, ℕ, zero, suc, ◌+◌, ◌==◌, ◌&&◌, nat_le, nat_lt, not, Bool, if◌then◌else◌, List, [], ◌∷◌, ◌++◌, filter, drop, take}
 use Rattle.vol_numbers.specs.declared.runs.Run.{Run}
 use Rattle.vol_numbers.specs.Layout.{Layout, area_start}
 

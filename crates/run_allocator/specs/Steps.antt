@@ -1,5 +1,5 @@
 -- The steps of the code, over the runs that it keeps.
-use Rattle.std.specs.Prelude.{◌≡◌, ◌<◌, ◌≤◌, ℕ, ◌+◌, ◌-◌, ◌==◌, zero, suc, if◌then◌else◌, List, [], ◌∷◌, length, Option, Some}
+use Rattle.std.specs.Prelude.{◌≡◌, ◌<◌, ◌≤◌, ℕ, ◌+◌, ◌-◌, ◌==◌, zero, suc, if◌then◌else◌, List, [], ◌∷◌, length, Some}
 use Rattle.std.specs.List.{slice_get}
 use Rattle.vol_numbers.specs.declared.runs.Run.{Run}
 use Rattle.run_allocator.specs.Runs.{outside, numbers_of, AreApart}

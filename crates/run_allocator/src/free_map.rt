@@ -2,7 +2,7 @@
 ghost use Rattle.std.specs.Prelude.{◌≡◌, ◌<◌, ◌≤◌, ◌↔◌, ℕ, length, IfOk, OnErr, IsErrOf};
 ghost use Rattle.vol_numbers.specs.Geometry.{layout_of};
 ghost use Rattle.run_allocator.specs.Runs.{numbers_of, free_area};
-ghost use Rattle.run_allocator.specs.Taken.{taken_runs, left_without};
+ghost use Rattle.run_allocator.specs.Taken.{taken_runs, AreTaken, left_without};
 ghost use Rattle.run_allocator.specs.declared.free_map.TakeFault.TheVariants.{Short};
 
 use crate::pieces::take_pieces;
@@ -76,8 +76,10 @@ impl FreeMap {
     pub fn take_run(&mut self, alloc: Global, n: u32) -> Result<RunList, TakeFault>
         requires { 1 ≤ n }
         ensures taken { IfOk result (λ runs. runs ≡ taken_runs self.old n) }
+        ensures in_turn { IfOk result (λ runs. AreTaken self.old n runs) }
         ensures left { IfOk result (λ runs. self.new ≡ left_without self.old runs) }
         ensures short { (free : ℕ) → IsErrOf result (Short free) → (free ≡ length self.old) × (length self.old < n) }
+        ensures too_few { length self.old < n → IsErrOf result (Short (length self.old)) }
         ensures enough { IfOk result (λ runs. n ≤ length self.old) }
         ensures unchanged { OnErr result (self.new ≡ self.old) }
     {

@@ -1,4 +1,4 @@
-use Rattle.std.proofs.Common.{◌≡◌, ◌<◌, ◌≤◌, ◌∙◌, ap, refl, length, arith}
+use Rattle.std.proofs.Common.{◌<◌, ◌≤◌, ◌∙◌, ap, refl, length, arith}
 use Rattle.std.specs.Prelude.{Option}
 use Rattle.vol_numbers.specs.declared.runs.Run.{Run}
 use Rattle.run_allocator.specs.Taken.{step_or, longest}
@@ -27,9 +27,9 @@ returns-then-n-run c =
     let within : i < length runs = omega (arith, c.loop-i-test.true) in
     let there = read_there runs i r c.index-run.ensures within in
     record {
-      part = record { there = there; index = within; positive = c.requires.n; within = c.if-n-run.true; end = (apart_at 1 runs i r c.requires.apart there).1 };
-      at_most = omega arith;
-      rule = ap (λ (o : Option Run). step_or c.args.n o (longest runs)) (fit_found c.args.n runs i r c.index-run.ensures within c.loop-i.invariant.fit c.if-n-run.true);
+      part = record { there = there; index = within; positive = omega (arith, c.requires.n); within = omega (arith, c.requires.n, c.if-n-run.true); end = (apart_at 1 runs i r c.requires.apart there).1 };
+      at_most = omega (arith, c.requires.n);
+      rule = ap (λ (o : Option Run). step_or c.args.n o (longest runs)) (fit_found c.args.n runs i r c.index-run.ensures within c.loop-i.invariant.fit (omega (arith, c.if-n-run.true)));
     }
 
 pub loop-i-preserved : goal.loop-i-preserved
@@ -45,13 +45,13 @@ loop-i-preserved c =
         there = read_there runs i r c.index-run.ensures within;
         within = within;
         fit = later;
-        longest = longest_other runs i c.loop-i.longest r c.index-run.ensures within inv.longest w.if-longest-run.true;
+        longest = longest_other runs i c.loop-i.longest r c.index-run.ensures within inv.longest (omega (arith, w.if-longest-run.true));
       })
       | else-longest-run w ↦ rw (w.index-is, w.longest-is) (record {
         there = inv.there;
         within = inv.within;
         fit = later;
-        longest = longest_same runs i c.loop-i.longest r c.index-run.ensures within inv.longest w.if-longest-run.false;
+        longest = longest_same runs i c.loop-i.longest r c.index-run.ensures within inv.longest (omega (arith, w.if-longest-run.false));
       })
     ]
 

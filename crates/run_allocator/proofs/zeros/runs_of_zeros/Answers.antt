@@ -1,5 +1,4 @@
 use Rattle.std.proofs.Common.{◌≡◌, ◌<◌, ◌+◌, ◌-◌, ◌∙◌, ◌∷◌, ℕ, List, ap, sym, length, arith}
-use Rattle.vol_numbers.specs.declared.runs.Run.{Run}
 use Rattle.run_allocator.specs.Runs.{numbers_of}
 use Rattle.run_allocator.proofs.RunLaws.{apart_lower}
 use Rattle.run_allocator.proofs.ZeroLaws.{with_numbers, with_apart, zero_there, none_there}
