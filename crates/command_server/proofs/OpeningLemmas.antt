@@ -7,7 +7,7 @@ use Rattle.disk_model.specs.Media.{image_named}
 use Rattle.disk_model.specs.Past.{Past, Adds}
 use Rattle.disk_model.proofs.Moments.{adds_then, adds_weaker, image_unsynced}
 use Rattle.root_switch.specs.Current.{root_of_image}
-use Rattle.root_switch.specs.Root.{Root}
+use Rattle.block_format.specs.Root.{Root}
 use Rattle.wire_ends.specs.Ends.{Output}
 use Rattle.wire_ends.specs.Ends.{Input}
 use Rattle.log_volume.specs.Fits.{Volume, Fits, kept_by}

@@ -1,5 +1,5 @@
 //! A root by the bytes of the format, and roots with one damaged field.
-use root_switch::{HomeBits, RootBody, RootShape, read_root, write_root};
+use block_format::{HomeBits, RootBody, RootShape, read_root, write_root};
 use vol_numbers::{Block, Geometry};
 
 /// The first 48 bytes of a fresh volume's root, which begins `IDEDUPFS`, version 1, 2,048 blocks, 64 of the log.

@@ -9,8 +9,8 @@ use Rattle.vol_numbers.specs.declared.block.Block.{Block}
 use Rattle.disk_model.specs.Disk.{State, EachImage, written, synced, is_among, DuringWrite, DuringWriteThrough}
 use Rattle.disk_model.specs.Past.{Past, Adds}
 use Rattle.disk_model.proofs.Moments.{adds_then, adds_weaker, slice_get-set_other, slice_get-set_same, is_among-included, kept_in_image, image_unsynced}
-use Rattle.root_switch.specs.Root.{HasGeometry}
-use Rattle.root_switch.specs.Homes.{home_bit}
+use Rattle.block_format.specs.Root.{HasGeometry}
+use Rattle.block_format.specs.Homes.{home_bit}
 use Rattle.log_volume.specs.Blocks.{count_block, index_block, inode_block}
 use Rattle.log_volume.specs.Fresh.{fresh_root, root_block}
 use Rattle.log_volume.specs.Formatting.{with_counts, with_inodes, with_root, with_selector, IsFormatted, HasFreshBody, HasSelectorLast, KeepsSelector, WritesRootFirst, IsMomentOfFormat}

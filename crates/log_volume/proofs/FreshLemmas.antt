@@ -4,9 +4,9 @@ use Rattle.std.specs.Prelude.{slice_get, unwrap_or}
 use Rattle.vol_numbers.specs.Block.{zero_block}
 use Rattle.vol_numbers.specs.Layout.{Layout, IsValid}
 use Rattle.vol_numbers.specs.declared.block.Block.{Block}
-use Rattle.root_switch.specs.Root.{Root, root_in, root_bytes, HasGeometry}
+use Rattle.block_format.specs.Root.{Root, root_in, root_bytes, HasGeometry}
 use Rattle.root_switch.specs.Current.{root_bytes_in, root_of_image}
-use Rattle.root_switch.proofs.RootLaws.{root_in-root_bytes}
+use Rattle.block_format.proofs.RootLaws.{root_in-root_bytes}
 use Rattle.log_volume.specs.Fresh.{IsFresh, fresh_root}
 use Rattle.log_volume.specs.Image.{Stands}
 use Rattle.log_volume.specs.Replay.{nothing_kept}

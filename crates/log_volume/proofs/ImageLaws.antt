@@ -5,7 +5,7 @@ use Rattle.vol_numbers.specs.Block.{zero_block}
 use Rattle.vol_numbers.specs.Layout.{Layout, count_blocks, log_start, area_start}
 use Rattle.vol_numbers.specs.declared.block.Block.{Block}
 use Rattle.disk_model.specs.Disk.{State, IsImage}
-use Rattle.root_switch.specs.Root.{Root, root_in, HasShape, HasGeometry}
+use Rattle.block_format.specs.Root.{Root, root_in, HasShape, HasGeometry}
 use Rattle.root_switch.specs.Current.{current_slot, root_bytes_in, root_of_image}
 use Rattle.tree_model.specs.declared.command.Command.{Command}
 use Rattle.op_log.specs.Log.{HoldsRecords, blocks_of}

@@ -5,8 +5,8 @@ use Rattle.vol_numbers.specs.Block.{zero_block}
 use Rattle.vol_numbers.specs.Layout.{Layout, IsValid, log_start}
 use Rattle.vol_numbers.specs.declared.block.Block.{Block}
 use Rattle.disk_model.specs.Disk.{State, IsImage, EachImage, is_among}
-use Rattle.root_switch.specs.declared.root.RootBody.{RootBody}
-use Rattle.root_switch.specs.Root.{Root, root_of, root_in, root_bytes, HasGeometry}
+use Rattle.block_format.specs.declared.root.RootBody.{RootBody}
+use Rattle.block_format.specs.Root.{Root, root_of, root_in, root_bytes, HasGeometry}
 use Rattle.root_switch.specs.Current.{root_of_image}
 use Rattle.root_switch.specs.Switch.{IsCurrent, HasOldRoot, HasNewRoot, OldOrNew, IsSwitched}
 use Rattle.root_switch.proofs.SwitchLemmas.{same_root}

@@ -3,8 +3,8 @@ use Rattle.std.proofs.Common.{◌≡◌, ◌∙◌, ◌<◌, ◌≤◌, ◌+◌,
 use Rattle.std.specs.Prelude.{slice_get, IsTrue, IfSome, IfNone}
 use Rattle.vol_numbers.specs.Layout.{log_start}
 use Rattle.vol_numbers.specs.declared.block.Block.{Block}
-use Rattle.root_switch.specs.declared.root.RootBody.{RootBody}
-use Rattle.root_switch.specs.Root.{Root, root_of}
+use Rattle.block_format.specs.declared.root.RootBody.{RootBody}
+use Rattle.block_format.specs.Root.{Root, root_of}
 use Rattle.root_switch.specs.Current.{root_of_image}
 use Rattle.tree_model.specs.Tree.{Tree}
 use Rattle.tree_model.specs.declared.command.Command.{Command}

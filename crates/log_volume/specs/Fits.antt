@@ -3,7 +3,7 @@ use Rattle.std.specs.Prelude.{◌≡◌, ◌≤◌, ℕ, Bool, List, [], length,
 use Rattle.vol_numbers.specs.declared.block.Block.{Block}
 use Rattle.disk_model.specs.Disk.{State}
 use Rattle.root_switch.specs.Current.{current_slot, root_of_image}
-use Rattle.root_switch.specs.Root.{Root}
+use Rattle.block_format.specs.Root.{Root}
 use Rattle.tree_model.specs.declared.command.Command.{Command}
 use Rattle.tree_model.specs.Tree.{Tree}
 use Rattle.log_volume.specs.Image.{Stands}

@@ -2,7 +2,7 @@
 use Rattle.std.specs.Prelude.{◌≡◌, ◌<◌, ℕ, ◌+◌, ◌*◌, List, length, replicate, slice_get, Some}
 use Rattle.vol_numbers.specs.Layout.{Layout, count_blocks, area_start}
 use Rattle.vol_numbers.specs.declared.block.Block.{Block}
-use Rattle.root_switch.specs.Root.{Root, root_bytes, HasGeometry}
+use Rattle.block_format.specs.Root.{Root, root_bytes, HasGeometry}
 use Rattle.root_switch.specs.Current.{current_slot}
 use Rattle.log_volume.specs.Blocks.{count_block, index_block, inode_block}
 

@@ -3,7 +3,7 @@ use Rattle.std.specs.Prelude.{◌≡◌, ◌⊎◌, ◌+◌, ℕ, List, []}
 use Rattle.vol_numbers.specs.declared.block.Block.{Block}
 use Rattle.disk_model.specs.Disk.{State}
 use Rattle.root_switch.specs.Current.{current_slot, root_of_image, HasRoot, FitsImage}
-use Rattle.root_switch.specs.Root.{Root}
+use Rattle.block_format.specs.Root.{Root}
 use Rattle.tree_model.specs.declared.command.Command.{Command}
 use Rattle.op_log.specs.Record.{record_blocks}
 use Rattle.log_volume.specs.Image.{KeepsLive, HasNext}

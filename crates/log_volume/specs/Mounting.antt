@@ -3,7 +3,7 @@ use Rattle.std.specs.Prelude.{◌≡◌, ◌<◌, ℕ, ◌+◌, ◌*◌, List, r
 use Rattle.vol_numbers.specs.Cause.{raised}
 use Rattle.vol_numbers.specs.Layout.{Layout, count_blocks, area_start}
 use Rattle.vol_numbers.specs.declared.block.Block.{Block}
-use Rattle.root_switch.specs.Root.{Root, root_of}
+use Rattle.block_format.specs.Root.{Root, root_of}
 use Rattle.root_switch.specs.Current.{current_slot, root_of_image, HasRoot, FitsImage}
 use Rattle.root_switch.specs.declared.reading.Current.{Current}
 use Rattle.log_volume.specs.Blocks.{count_block, index_block, inode_block}

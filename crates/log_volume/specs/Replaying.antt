@@ -2,8 +2,8 @@
 use Rattle.std.specs.Prelude.{◌≡◌, ◌<◌, ◌≤◌, ℕ, Bool, All, List, length, take, slice_get, Result, Ok, Err, IfSome, IfNone, IsTrue}
 use Rattle.vol_numbers.specs.Layout.{log_start}
 use Rattle.vol_numbers.specs.declared.block.Block.{Block}
-use Rattle.root_switch.specs.declared.root.RootBody.{RootBody}
-use Rattle.root_switch.specs.Root.{root_of}
+use Rattle.block_format.specs.declared.root.RootBody.{RootBody}
+use Rattle.block_format.specs.Root.{root_of}
 use Rattle.tree_model.specs.declared.command.Command.{Command}
 use Rattle.op_log.specs.Log.{HoldsRecords, IsFirstBad, blocks_of}
 use Rattle.op_log.specs.Record.{HasRecord}

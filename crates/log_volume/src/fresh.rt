@@ -5,8 +5,8 @@ ghost use Rattle.vol_numbers.specs.Geometry.{layout_of};
 ghost use Rattle.log_volume.specs.Fresh.{root_block};
 ghost use Rattle.log_volume.specs.Blocks.{block_of_words, fresh_count, fresh_counts, count_block, index_block, inode_block};
 
+use block_format::{HomeBits, RootBody, write_root};
 use byteorder::{ByteOrder, LittleEndian};
-use root_switch::{HomeBits, RootBody, write_root};
 use vol_numbers::{Block, BlockNo, Geometry};
 
 /// How many numbers a block of counts or pointers has.

@@ -4,14 +4,15 @@ ghost use Rattle.vol_numbers.specs.Cause.{HasCause};
 ghost use Rattle.disk_model.specs.Disk.{EachImage};
 ghost use Rattle.disk_model.specs.Past.{Adds};
 ghost use Rattle.root_switch.specs.Current.{selector_block};
-ghost use Rattle.root_switch.specs.Root.{root_of, HasGeometry};
+ghost use Rattle.block_format.specs.Root.{root_of, HasGeometry};
 ghost use Rattle.op_log.specs.Record.{IsLogged, record_blocks};
 ghost use Rattle.log_volume.specs.Image.{HasNext};
 ghost use Rattle.log_volume.specs.Logging.{HasCurrent, next_root, KeepsOrNext};
 
+use block_format::RootBody;
 use disk_model::{Disk, DiskFault};
 use op_log::{append, record_blocks};
-use root_switch::{Current, RootBody, commit};
+use root_switch::{Current, commit};
 use tree_model::Command;
 
 /// Writes the record of a command behind the log, and switches to a root that counts it. It takes no memory.

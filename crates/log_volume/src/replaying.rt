@@ -1,7 +1,7 @@
 //! Reads the log of a volume, and does its commands on a new tree.
 ghost use Rattle.std.specs.Prelude.{◌≡◌, ◌<◌, ◌≤◌, All, length, IfOk, IsTrue};
 ghost use Rattle.disk_model.specs.Past.{Adds};
-ghost use Rattle.root_switch.specs.Root.{root_of, HasGeometry};
+ghost use Rattle.block_format.specs.Root.{root_of, HasGeometry};
 ghost use Rattle.root_switch.specs.Current.{root_of_image};
 ghost use Rattle.tree_model.specs.Shape.{IsTree};
 ghost use Rattle.vol_numbers.specs.Layout.{log_start};
@@ -13,9 +13,9 @@ ghost use Rattle.log_volume.specs.Replay.{nothing_kept, after, DoesEach};
 ghost use Rattle.log_volume.specs.Replaying.{ReadsFront, IfRefused, IsRefusedAt};
 
 use crate::{Finding, MountFault};
+use block_format::RootBody;
 use disk_model::Disk;
 use op_log::{CommandList, LogFault, blocks_of, read_all};
-use root_switch::RootBody;
 use std::alloc::{AllocError, Global};
 use tree_model::{Command, PlainTree, Reply};
 

@@ -4,7 +4,7 @@ ghost use Rattle.vol_numbers.specs.Cause.{HasCause};
 ghost use Rattle.disk_model.specs.Disk.{EachImage};
 ghost use Rattle.disk_model.specs.Past.{Adds};
 ghost use Rattle.root_switch.specs.Current.{selector_block};
-ghost use Rattle.root_switch.specs.Root.{root_of, HasGeometry};
+ghost use Rattle.block_format.specs.Root.{root_of, HasGeometry};
 ghost use Rattle.tree_model.specs.Shape.{IsTree};
 ghost use Rattle.tree_model.specs.Step.{is_plain, is_change};
 ghost use Rattle.log_volume.specs.Answers.{Legal, accepted, added, unbuilt_reply};
@@ -35,7 +35,7 @@ pub struct LogVolume {
 
 impl Model for LogVolume {
     ghost use Rattle.std.specs.Prelude.{◌<◌};
-    ghost use Rattle.root_switch.specs.Root.{root_of, HasGeometry};
+    ghost use Rattle.block_format.specs.Root.{root_of, HasGeometry};
     ghost use Rattle.tree_model.specs.Shape.{IsTree};
     ghost use Rattle.log_volume.specs.Fits.{Volume};
 

@@ -2,7 +2,7 @@
 ghost use Rattle.std.specs.Prelude.{◌≡◌, ◌<◌, ◌≤◌, All, IfOk, IsTrue, length};
 ghost use Rattle.vol_numbers.specs.Layout.{log_start};
 ghost use Rattle.disk_model.specs.Past.{Adds};
-ghost use Rattle.root_switch.specs.Root.{root_of, HasGeometry};
+ghost use Rattle.block_format.specs.Root.{root_of, HasGeometry};
 ghost use Rattle.op_log.specs.Fault.{HasLogCause, IfBadRecord};
 ghost use Rattle.op_log.specs.Log.{HoldsRecords, IsFirstBad, blocks_of};
 ghost use Rattle.op_log.specs.Record.{HasRecord};
@@ -10,8 +10,8 @@ ghost use Rattle.op_log.specs.Record.{HasRecord};
 use crate::fault::ReadFault;
 use crate::record_reading::push_next;
 use crate::{CommandList, LogFault};
+use block_format::RootBody;
 use disk_model::Disk;
-use root_switch::RootBody;
 use std::alloc::Global;
 
 /// Reads as many records as a root says, each of its blocks once, and answers their commands in order. It takes memory for these and for

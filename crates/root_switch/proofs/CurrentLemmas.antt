@@ -3,8 +3,8 @@ use Rattle.std.proofs.Common.{◌≡◌, ◌∙◌, ◌+◌, ◌<◌, ◌≤◌,
 use Rattle.std.specs.Prelude.{slice_get, unwrap_or, IfSome}
 use Rattle.vol_numbers.specs.Block.{zero_block}
 use Rattle.vol_numbers.specs.declared.block.Block.{Block}
-use Rattle.root_switch.specs.declared.root.RootBody.{RootBody}
-use Rattle.root_switch.specs.Root.{root_of, root_in, root_bytes, SpellsRoot}
+use Rattle.block_format.specs.declared.root.RootBody.{RootBody}
+use Rattle.block_format.specs.Root.{root_of, root_in, root_bytes, SpellsRoot}
 use Rattle.root_switch.specs.Current.{current_slot, root_bytes_in, root_of_image, HasRoot}
 
 -- there is an item at each index below the length

@@ -1,3 +1,2 @@
 mod CurrentLemmas
-pub mod RootLaws
 pub mod SwitchLemmas

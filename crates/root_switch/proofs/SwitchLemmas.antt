@@ -8,7 +8,7 @@ use Rattle.disk_model.specs.Past.{Past, Adds}
 use Rattle.disk_model.proofs.Moments.{adds_none, adds_write_through, kept_in_image, image_unsynced, slice_get-set_same, slice_get-set_other}
 use Rattle.root_switch.specs.Current.{current_slot, current_root, selector_block}
 use Rattle.root_switch.specs.Switch.{IsCurrent, OldOrNew, IsSwitched, spelled_root}
-use Rattle.root_switch.specs.declared.root.RootBody.{RootBody}
+use Rattle.block_format.specs.declared.root.RootBody.{RootBody}
 
 -- two images with one selector and one block in the slot that it names have one root
 pub same_root : (image before : List Block) (slot : ℕ) → current_slot before ≡ slot → slice_get image 0 ≡ slice_get before 0 → slice_get image (1 + slot) ≡ slice_get before (1 + slot)

@@ -2,7 +2,7 @@
 use Rattle.std.specs.Prelude.{◌≡◌, ◌≤◌, ◌+◌, ◌%◌, ℕ, List, ◌∷◌, length, replicate, slice_get, slice_index, Option, option_map, unwrap_or}
 use Rattle.vol_numbers.specs.Block.{zero_block}
 use Rattle.vol_numbers.specs.declared.block.Block.{Block}
-use Rattle.root_switch.specs.Root.{Root, root_in, HasShape, HasGeometry}
+use Rattle.block_format.specs.Root.{Root, root_in, HasShape, HasGeometry}
 
 -- the selector of a slot: its number in the first byte, and zeros behind it
 abbrev pub selector_block : ℕ → Block

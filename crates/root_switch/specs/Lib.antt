@@ -1,5 +1,2 @@
 pub mod Current
-pub mod Fields
-pub mod Homes
-pub mod Root
 pub mod Switch

@@ -2,11 +2,11 @@
 ghost use Rattle.std.specs.Prelude.{◌≡◌, ◌<◌, ◌≤◌, ◌+◌, IfOk, IfSome, IsErrOf, IsTrue, slice_get};
 ghost use Rattle.vol_numbers.specs.Cause.{HasCause, raised};
 ghost use Rattle.disk_model.specs.Past.{Adds};
-ghost use Rattle.root_switch.specs.Root.{root_of, root_in, HasShape, HasGeometry, SpellsRoot};
+ghost use Rattle.block_format.specs.Root.{root_of, root_in, HasShape, HasGeometry, SpellsRoot};
 ghost use Rattle.root_switch.specs.Current.{current_slot, root_of_image, HasRoot, FitsImage};
 ghost use Rattle.root_switch.specs.declared.reading.RootFault.TheVariants.{Device, NoRoot, BadGeometry};
 
-use crate::{RootBody, RootShape, read_root};
+use block_format::{RootBody, RootShape, read_root};
 use disk_model::{Disk, DiskFault};
 use thiserror::Error;
 use vol_numbers::Block;

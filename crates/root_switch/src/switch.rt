@@ -4,11 +4,11 @@ ghost use Rattle.vol_numbers.specs.Cause.{HasCause};
 ghost use Rattle.vol_numbers.specs.Geometry.{layout_of};
 ghost use Rattle.disk_model.specs.Disk.{EachImage, DuringWrite, DuringWriteThrough, written, synced};
 ghost use Rattle.disk_model.specs.Past.{Adds};
-ghost use Rattle.root_switch.specs.Root.{root_of, root_in, root_bytes, HasGeometry};
+ghost use Rattle.block_format.specs.Root.{root_of, root_in, root_bytes, HasGeometry};
 ghost use Rattle.root_switch.specs.Current.{selector_block};
 ghost use Rattle.root_switch.specs.Switch.{IsCurrent, OldOrNew, IsSwitched, spelled_root};
 
-use crate::{RootBody, write_root};
+use block_format::{RootBody, write_root};
 use disk_model::{Disk, DiskFault, write_through};
 use vol_numbers::Block;
 

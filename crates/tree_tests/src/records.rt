@@ -1,13 +1,13 @@
 //! Records by the bytes of the format, damaged ones, and disks that fail.
 ghost use Rattle.std.specs.Prelude.{◌≤◌, All, IfOk};
-ghost use Rattle.root_switch.specs.Root.{root_of, HasGeometry};
+ghost use Rattle.block_format.specs.Root.{root_of, HasGeometry};
 ghost use Rattle.op_log.specs.Log.{blocks_of};
 ghost use Rattle.op_log.specs.Record.{HasRecord};
 
 use crate::acts::{Act, command};
+use block_format::{HomeBits, RootBody, read_root, write_root};
 use disk_model::{Disk, MemDisk};
 use op_log::{CommandList, LogFault, append, blocks_of, is_logged, read_all, record_blocks};
-use root_switch::{HomeBits, RootBody, read_root, write_root};
 use std::alloc::Global;
 use std::test::Fail;
 use tree_model::Command;

@@ -1,7 +1,7 @@
 use Rattle.std.proofs.Common.{◌≡◌, ◌∙◌, ◌+◌, inl, ℕ, refl, ap}
 use Rattle.std.specs.Prelude.{Result, Ok, Err, OnErr}
 use Rattle.disk_model.proofs.Moments.{adds_then, adds_weaker}
-use Rattle.root_switch.specs.Root.{root_of}
+use Rattle.block_format.specs.Root.{root_of}
 use Rattle.log_volume.specs.Logging.{next_root}
 use Rattle.log_volume.proofs.LoggingLemmas.{kept_in, any_keeps, switched_next}
 use Rattle.log_volume.proofs.logging.log.Goals as goal

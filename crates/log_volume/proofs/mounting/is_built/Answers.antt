@@ -2,7 +2,7 @@ use Rattle.std.proofs.Common.{◌≡◌, List, ap, subst, sym}
 use Rattle.std.proofs.lemmas.Result.{IfOk-weaker}
 use Rattle.vol_numbers.specs.declared.block.Block.{Block}
 use Rattle.disk_model.specs.Disk.{State}
-use Rattle.root_switch.specs.Root.{Root, root_of}
+use Rattle.block_format.specs.Root.{Root, root_of}
 use Rattle.log_volume.specs.Mounting.{HasFreshFields, HasCounts, HasInodes}
 use Rattle.log_volume.proofs.MountLemmas.{built_from, built_inodes}
 use Rattle.log_volume.proofs.mounting.is_built.Goals as goal

@@ -1,7 +1,7 @@
 use Rattle.std.proofs.Common.{ap, subst, arith}
 use Rattle.vol_numbers.specs.Layout.{log_start}
-use Rattle.root_switch.specs.declared.root.RootBody.{RootBody}
-use Rattle.root_switch.specs.Root.{root_of}
+use Rattle.block_format.specs.declared.root.RootBody.{RootBody}
+use Rattle.block_format.specs.Root.{root_of}
 use Rattle.op_log.specs.Log.{IsFirstBad}
 use Rattle.op_log.proofs.LogLemmas.{none_behind_bad}
 use Rattle.log_volume.proofs.replaying.read_before.Goals as goal

@@ -5,7 +5,7 @@ use Rattle.std.proofs.lemmas.List.Elements.{All-push}
 use Rattle.vol_numbers.specs.declared.block.Block.{Block}
 use Rattle.vol_numbers.specs.Layout.{log_start}
 use Rattle.disk_model.specs.Disk.{State}
-use Rattle.root_switch.specs.Root.{root_of}
+use Rattle.block_format.specs.Root.{root_of}
 use Rattle.tree_model.specs.declared.command.Command.{Command}
 use Rattle.op_log.specs.Log.{HoldsRecords, RecordStands, blocks_of}
 use Rattle.op_log.specs.Reading.{NoRecordStands}

@@ -2,7 +2,7 @@ use Rattle.std.proofs.Common.{◌≡◌, ◌≤◌, IsTrue, length}
 use Rattle.std.specs.Prelude.{All}
 use Rattle.vol_numbers.specs.Layout.{log_start}
 use Rattle.disk_model.specs.Past.{Adds}
-use Rattle.root_switch.specs.Root.{root_of}
+use Rattle.block_format.specs.Root.{root_of}
 use Rattle.op_log.specs.Log.{HoldsRecords, blocks_of}
 use Rattle.op_log.specs.Record.{HasRecord}
 use Rattle.op_log.proofs.reading.read_all.Given as goal

@@ -2,7 +2,7 @@ use Rattle.std.proofs.Common.{◌≡◌, ◌∙◌, ◌+◌, ◌≤◌, length, 
 use Rattle.std.specs.Prelude.{slice_get, IfSome}
 use Rattle.disk_model.specs.Disk.{State}
 use Rattle.disk_model.specs.Media.{Fixed}
-use Rattle.root_switch.specs.Root.{Root, root_of, root_in, HasGeometry, SpellsRoot}
+use Rattle.block_format.specs.Root.{Root, root_of, root_in, HasGeometry, SpellsRoot}
 use Rattle.root_switch.specs.Current.{root_of_image}
 use Rattle.root_switch.proofs.CurrentLemmas.{root_found}
 use Rattle.root_switch.proofs.reading.read_current.Goals as goal

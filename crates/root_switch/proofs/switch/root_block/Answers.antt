@@ -1,5 +1,5 @@
 use Rattle.std.proofs.Common.{◌∙◌, ap, sym}
-use Rattle.root_switch.specs.Root.{root_in}
+use Rattle.block_format.specs.Root.{root_in}
 use Rattle.root_switch.proofs.switch.root_block.Goals as goal
 
 pub returns-clause-reads_back : goal.returns-clause-reads_back

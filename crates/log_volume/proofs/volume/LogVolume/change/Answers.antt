@@ -2,7 +2,7 @@ use Rattle.std.proofs.Common.{◌≡◌, ◌∙◌, ◌+◌, ◌≤◌, inl, Lis
 use Rattle.disk_model.specs.Disk.{EachImage}
 use Rattle.disk_model.specs.Past.{Adds}
 use Rattle.disk_model.proofs.Moments.{adds_weaker}
-use Rattle.root_switch.specs.Root.{Root, root_of}
+use Rattle.block_format.specs.Root.{Root, root_of}
 use Rattle.tree_model.specs.Step.{refusal_of}
 use Rattle.tree_model.specs.declared.command.Command.{Command}
 use Rattle.tree_model.specs.declared.reply.Reply.TheVariants as reply

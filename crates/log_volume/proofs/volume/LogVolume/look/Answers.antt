@@ -1,6 +1,6 @@
 use Rattle.std.proofs.Common.{◌∙◌, ap}
 use Rattle.tree_model.specs.Tree.{Tree}
-use Rattle.root_switch.specs.Root.{root_of}
+use Rattle.block_format.specs.Root.{root_of}
 use Rattle.log_volume.specs.Fits.{Volume}
 use Rattle.log_volume.proofs.AnswerLemmas.{tree_kept, tree_same}
 use Rattle.log_volume.proofs.volume.LogVolume.look.Goals as goal

@@ -1,6 +1,6 @@
 //! The home bits of a root: in which of its two homes each count block lies.
 ghost use Rattle.std.specs.Prelude.{◌≡◌, ◌<◌, ◌≤◌, ◌↔◌, ℕ, IsTrue, replicate};
-ghost use Rattle.root_switch.specs.Homes.{home_bit};
+ghost use Rattle.block_format.specs.Homes.{home_bit};
 
 /// Bit `i mod 8` of byte `i / 8` is the home of count block `i`.
 #[derive(Clone, Copy, Debug, PartialEq, Eq)]

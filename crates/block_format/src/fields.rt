@@ -1,6 +1,6 @@
 //! The fields of a root slot as they stand, before any rule of the geometry.
 ghost use Rattle.std.specs.Prelude.{◌≡◌, ◌≤◌, ◌+◌, ◌↔◌, IsSome, IfSome, length, take, drop};
-ghost use Rattle.root_switch.specs.Root.{root_of, root_in, root_bytes, header_bytes, HasGeometry};
+ghost use Rattle.block_format.specs.Root.{root_of, root_in, root_bytes, header_bytes, HasGeometry};
 
 use crate::{HomeBits, RootBody};
 use byteorder::{ByteOrder, LittleEndian};
@@ -18,7 +18,7 @@ pub(crate) struct Fields {
 }
 
 impl Fields {
-    ghost use Rattle.root_switch.specs.Fields.{root_from};
+    ghost use Rattle.block_format.specs.Fields.{root_from};
 
     /// The fields of a root.
     pub(crate) fn of(body: &RootBody) -> Fields

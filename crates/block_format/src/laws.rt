@@ -1,6 +1,6 @@
 //! Each root has one spelling, and each spelling one root.
 ghost use Rattle.std.specs.Prelude.{◌≡◌};
-ghost use Rattle.root_switch.specs.Root.{root_of, root_in, root_bytes, SpellsRoot};
+ghost use Rattle.block_format.specs.Root.{root_of, root_in, root_bytes, SpellsRoot};
 
 use crate::RootBody;
 use vol_numbers::Block;

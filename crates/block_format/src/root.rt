@@ -1,7 +1,7 @@
 //! A root, and its block.
 ghost use Rattle.std.specs.Prelude.{◌≡◌, ◌↔◌, IsOk, IfOk, IsErrOf, IsTrue};
-ghost use Rattle.root_switch.specs.Root.{root_of, root_in, root_bytes, HasShape, HasGeometry, SpellsRoot};
-ghost use Rattle.root_switch.specs.declared.root.RootShape.TheVariants.{NoRoot, BadGeometry};
+ghost use Rattle.block_format.specs.Root.{root_of, root_in, root_bytes, HasShape, HasGeometry, SpellsRoot};
+ghost use Rattle.block_format.specs.declared.root.RootShape.TheVariants.{NoRoot, BadGeometry};
 
 use crate::HomeBits;
 use crate::fields::Fields;

@@ -1,7 +1,7 @@
 use Rattle.std.proofs.Common.{rules}
-use Rattle.root_switch.specs.Fields.{root_from}
-use Rattle.root_switch.proofs.RootLaws.{HasRoom, root_in-root_bytes}
-use Rattle.root_switch.proofs.fields.Fields.header.Goals as goal
+use Rattle.block_format.specs.Fields.{root_from}
+use Rattle.block_format.proofs.RootLaws.{HasRoom, root_in-root_bytes}
+use Rattle.block_format.proofs.fields.Fields.header.Goals as goal
 
 pub returns-clause-reads_back : goal.returns-clause-reads_back
 returns-clause-reads_back c =

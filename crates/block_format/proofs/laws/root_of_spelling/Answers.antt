@@ -1,7 +1,7 @@
 use Rattle.std.proofs.Common.{rules}
-use Rattle.root_switch.specs.Root.{root_of}
-use Rattle.root_switch.proofs.RootLaws.{HasRoom, root_in-spelled}
-use Rattle.root_switch.proofs.laws.root_of_spelling.Goals as goal
+use Rattle.block_format.specs.Root.{root_of}
+use Rattle.block_format.proofs.RootLaws.{HasRoom, root_in-spelled}
+use Rattle.block_format.proofs.laws.root_of_spelling.Goals as goal
 
 pub returns : goal.returns
 returns c =

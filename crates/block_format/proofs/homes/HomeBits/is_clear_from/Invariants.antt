@@ -1,6 +1,6 @@
 use Rattle.std.proofs.Common.{◌≡◌, ℕ, ◌<◌, ◌≤◌}
-use Rattle.root_switch.specs.Homes.{home_bit}
-use Rattle.root_switch.proofs.homes.HomeBits.is_clear_from.Given as goal
+use Rattle.block_format.specs.Homes.{home_bit}
+use Rattle.block_format.proofs.homes.HomeBits.is_clear_from.Given as goal
 
 -- no bit was set up to here
 abbrev pub invariant-loop-i : goal.invariant-loop-i

@@ -1,7 +1,7 @@
 use Rattle.std.proofs.Common.{rules, sym, ◌∙◌}
-use Rattle.root_switch.specs.Root.{root_of}
-use Rattle.root_switch.proofs.RootLaws.{HasRoom, root_in-spelled, root_of-same}
-use Rattle.root_switch.proofs.laws.same_root.Goals as goal
+use Rattle.block_format.specs.Root.{root_of}
+use Rattle.block_format.proofs.RootLaws.{HasRoom, root_in-spelled, root_of-same}
+use Rattle.block_format.proofs.laws.same_root.Goals as goal
 
 pub returns : goal.returns
 returns c =

@@ -4,8 +4,8 @@ use Rattle.byteorder.specs.Endian.{little_bytes, little_number}
 use Rattle.vol_numbers.specs.Layout.{Layout, IsValid, count_blocks}
 use Rattle.vol_numbers.specs.Geometry.{layout_of}
 use Rattle.vol_numbers.specs.declared.block.Block.{Block}
-use Rattle.root_switch.specs.Homes.{home_bit}
-use Rattle.root_switch.specs.declared.root.RootBody.{RootBody}
+use Rattle.block_format.specs.Homes.{home_bit}
+use Rattle.block_format.specs.declared.root.RootBody.{RootBody}
 
 -- what a root says
 pub record Root : Type 0 where

@@ -1,7 +1,7 @@
 use Rattle.std.proofs.Common.{rules}
-use Rattle.root_switch.specs.Root.{root_of}
-use Rattle.root_switch.proofs.RootLaws.{HasRoom, root_in-root_bytes}
-use Rattle.root_switch.proofs.laws.spelling_reads_back.Goals as goal
+use Rattle.block_format.specs.Root.{root_of}
+use Rattle.block_format.proofs.RootLaws.{HasRoom, root_in-root_bytes}
+use Rattle.block_format.proofs.laws.spelling_reads_back.Goals as goal
 
 pub returns : goal.returns
 returns c =

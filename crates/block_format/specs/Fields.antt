@@ -1,6 +1,6 @@
 -- The fields of a root slot, before any rule of the geometry.
-use Rattle.root_switch.specs.Root.{Root}
-use Rattle.root_switch.specs.declared.fields.Fields.{Fields}
+use Rattle.block_format.specs.Root.{Root}
+use Rattle.block_format.specs.declared.fields.Fields.{Fields}
 
 -- the root that these fields say
 abbrev pub root_from : Fields → Root

@@ -8,8 +8,8 @@ use Rattle.vol_numbers.specs.Geometry.{layout_of}
 use Rattle.vol_numbers.specs.Layout.{Layout, IsValid}
 use Rattle.std.proofs.Math.Bridge.{le_prop}
 use mathlib.Core.HLevel.{is_prop→PathP}
-use Rattle.root_switch.specs.declared.root.RootBody.{RootBody}
-use Rattle.root_switch.specs.Root.{Root, root_of, root_in, root_bytes, SpellsRoot}
+use Rattle.block_format.specs.declared.root.RootBody.{RootBody}
+use Rattle.block_format.specs.Root.{Root, root_of, root_in, root_bytes, SpellsRoot}
 
 -- each field has room for its number
 pub record HasRoom (r : Root) : Type 0 where
