@@ -5,7 +5,8 @@ ghost use Rattle.op_log.specs.Log.{blocks_of};
 ghost use Rattle.op_log.specs.Record.{HasRecord};
 
 use crate::acts::{Act, command};
-use disk_model::{Disk, MemDisk};
+use disk_model::Disk;
+use mem_disk::MemDisk;
 use op_log::{CommandList, LogFault, append, blocks_of, is_logged, read_all, record_blocks};
 use root_switch::{HomeBits, RootBody, read_root, write_root};
 use std::alloc::Global;
