@@ -1,4 +1,2 @@
 mod CutLemmas
-mod MediaLemmas
-mod MemoryLemmas
 pub mod Moments

@@ -1,7 +1,8 @@
 //! Disks in memory: that their calls succeed where there is memory, and what a plan and a cut leave.
 ghost use Rattle.std.specs.Prelude.{◌≡◌, ◌<◌};
 
-use disk_model::{Disk, DiskFault, MemDisk, NotOpen, Pick, SureDisk};
+use disk_model::{Disk, DiskFault, NotOpen, Pick};
+use mem_disk::{MemDisk, SureDisk};
 use std::alloc::{AllocError, Global};
 use std::test::Fail;
 use vol_numbers::{Block, BlockNo, CallList};

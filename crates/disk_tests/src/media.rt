@@ -1,6 +1,8 @@
 //! A medium in memory: that its images are opened again, each with its own plan.
 use crate::disks::{call, reads, writes};
-use disk_model::{Disk, Media, MemDisk, MemMedia, OpenFault};
+use disk_model::{Disk, Media, OpenFault};
+use mem_disk::MemDisk;
+use mem_media::MemMedia;
 use std::alloc::Global;
 use std::test::Fail;
 use vol_numbers::CallList;

@@ -1,6 +1,8 @@
 //! That disks and media in memory go on to tell their moments where memory is ample, also after calls that fail.
 use crate::disks::{call, reads, writes};
-use disk_model::{Disk, Media, MemDisk, MemMedia, SureDisk};
+use disk_model::{Disk, Media};
+use mem_disk::{MemDisk, SureDisk};
+use mem_media::MemMedia;
 use std::alloc::Global;
 use std::test::Fail;
 use vol_numbers::CallList;

@@ -1,7 +1,9 @@
 //! The image `v`: its blocks are shown and changed, its calls are planned, and its power is cut.
 use crate::ends::one_call;
 use crate::texts::{byte, number};
-use disk_model::{Disk, Media, MemDisk, MemMedia, Pick};
+use disk_model::{Disk, Media, Pick};
+use mem_disk::MemDisk;
+use mem_media::MemMedia;
 use std::alloc::{AllocError, Global};
 use vol_numbers::{Block, BlockNo};
 

@@ -1,7 +1,9 @@
 //! Sessions over disks that fail at each call in turn, and what a power cut leaves of them.
 use crate::runs::{fresh, roomy, serve_over};
 use command_server::Status;
-use disk_model::{MemDisk, MemMedia, Pick};
+use disk_model::Pick;
+use mem_disk::MemDisk;
+use mem_media::MemMedia;
 use std::alloc::{AllocError, Global};
 use std::test::Fail;
 use vol_numbers::{Block, BlockNo, CallList};

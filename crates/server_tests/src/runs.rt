@@ -1,6 +1,6 @@
 //! Calls of the server over media, a source and a sink in memory.
 use command_server::{Status, run};
-use disk_model::MemMedia;
+use mem_media::MemMedia;
 use std::alloc::{AllocError, Global};
 use vol_numbers::{ByteList, CallList};
 use wire_ends::{MemSink, MemSource, Sink};

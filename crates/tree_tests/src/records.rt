@@ -6,7 +6,8 @@ ghost use Rattle.op_log.specs.Record.{HasRecord};
 
 use crate::acts::{Act, command};
 use block_format::{HomeBits, RootBody, read_root, write_root};
-use disk_model::{Disk, MemDisk};
+use disk_model::Disk;
+use mem_disk::MemDisk;
 use op_log::{CommandList, LogFault, append, blocks_of, is_logged, read_all, record_blocks};
 use std::alloc::Global;
 use std::test::Fail;
