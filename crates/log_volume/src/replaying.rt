@@ -16,8 +16,9 @@ use crate::{Finding, MountFault};
 use block_format::RootBody;
 use disk_model::Disk;
 use op_log::{CommandList, LogFault, blocks_of, read_all};
+use plain_tree::PlainTree;
 use std::alloc::{AllocError, Global};
-use tree_model::{Command, PlainTree, Reply};
+use tree_model::{Command, Reply};
 
 /// The tree that the log makes, where this is the current root.
 pub(crate) fn read_tree<D: Disk>(

@@ -20,10 +20,11 @@ use crate::logging::log;
 use crate::{Answer, Stopped};
 use disk_model::{Disk, DiskFault};
 use op_log::record_blocks;
+use plain_tree::PlainTree;
 use root_switch::Current;
 use std::alloc::AllocError;
 use std::marker::Model;
-use tree_model::{Command, PlainTree, Refusal, Reply};
+use tree_model::{Command, Refusal, Reply};
 
 /// The current root, the tree, and whether a write or a sync has failed.
 #[derive(Drop)]

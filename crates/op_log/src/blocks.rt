@@ -12,13 +12,13 @@ pub fn is_logged(command: &Command) -> bool
     ensures { IsTrue result ↔ IsLogged command.now }
 {
     match command {
-        Command::Mkdir { path } => !path.names().is_empty(),
-        Command::Create { path } => !path.names().is_empty(),
+        Command::Mkdir { path }
+        | Command::Create { path }
+        | Command::Truncate { path, .. }
+        | Command::Remove { path } => !path.names().is_empty(),
         Command::Write { path, bytes, .. } => {
             !path.names().is_empty() && !bytes.as_slice().is_empty()
         }
-        Command::Truncate { path, .. } => !path.names().is_empty(),
-        Command::Remove { path } => !path.names().is_empty(),
         Command::Rename { from, to } => !from.names().is_empty() && !to.names().is_empty(),
         _ => false,
     }
@@ -55,13 +55,13 @@ fn text_len(command: &Command) -> u32
     ensures at_most { result ≤ 66584 }
 {
     match command {
-        Command::Mkdir { path } => 24 + path.length() as u32,
-        Command::Create { path } => 24 + path.length() as u32,
+        Command::Mkdir { path }
+        | Command::Create { path }
+        | Command::Truncate { path, .. }
+        | Command::Remove { path } => 24 + path.length() as u32,
         Command::Write { path, bytes, .. } => {
             24 + path.length() as u32 + bytes.as_slice().len() as u32
         }
-        Command::Truncate { path, .. } => 24 + path.length() as u32,
-        Command::Remove { path } => 24 + path.length() as u32,
         Command::Rename { from, to } => 24 + from.length() as u32 + to.length() as u32,
         _ => unreachable!(),
     }

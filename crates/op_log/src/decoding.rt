@@ -36,11 +36,7 @@ fn if_spelled(command: Command, bytes: &[u8]) -> Option<Command>
     ensures found { IfSome result (λ c. HasRecord c × Spells c bytes.now) }
     ensures none { IfNone result (Spells command bytes.now → ⊥) }
 {
-    if spells(&command, bytes) {
-        Some(command)
-    } else {
-        None
-    }
+    spells(&command, bytes).then_some(command)
 }
 
 /// The command that these fields make, if they make one that is logged.
@@ -68,7 +64,7 @@ fn command_of(
     }
 }
 
-/// The write of these bytes, if they are neither none nor too many.
+/// The write of these bytes, if they can be its data.
 fn write_of(
     alloc: Global,
     path: Path,
@@ -79,18 +75,26 @@ fn write_of(
     ensures logged { IfOk result (λ found. IfSome found IsLogged) }
     ensures is { IfOk result (λ found. 1 ≤ length bytes.now → length bytes.now ≤ 65536 → found ≡ Some (Write path offset bytes.now)) }
 {
-    if bytes.is_empty() {
-        return Ok(None);
-    }
-    let bytes = ByteList::from_vec(Vec::from_slice(alloc, bytes)?);
-    match Payload::new(bytes) {
-        Ok(bytes) => Ok(Some(Command::Write {
+    match payload_of(alloc, bytes)? {
+        Some(bytes) => Ok(Some(Command::Write {
             path,
             offset,
             bytes,
         })),
-        Err(_) => Ok(None),
+        None => Ok(None),
     }
+}
+
+/// These bytes as the data of a write, if they are neither none nor too many.
+fn payload_of(alloc: Global, bytes: &[u8]) -> Result<Option<Payload>, AllocError>
+    ensures some { IfOk result (λ found. IfSome found (λ payload. payload ≢ [])) }
+    ensures is { IfOk result (λ found. 1 ≤ length bytes.now → length bytes.now ≤ 65536 → found ≡ Some bytes.now) }
+{
+    if bytes.is_empty() {
+        return Ok(None);
+    }
+    let bytes = ByteList::from_vec(Vec::from_slice(alloc, bytes)?);
+    Ok(Payload::new(bytes).ok())
 }
 
 /// The rename to the path that these bytes spell, if they spell one.

@@ -18,7 +18,7 @@ use Rattle.tree_model.specs.Tree.{Tree, with_node, without, moved_onto, new_path
 use Rattle.tree_model.specs.Step.{step, attempt, settled, ◌>>=◌, written_tree, is_change}
 use Rattle.tree_model.specs.Order.{IsOrdered}
 use Rattle.tree_model.specs.Laws.{KeepsOrder, SameTree, PutAt, RefusedLeaves, ReadingLeaves}
-use Rattle.tree_model.proofs.Puts.{same_path}
+use Rattle.tree_model.proofs.Paths.{same_path}
 
 pub path_total : IsTotalOrder path_cmp
 path_total = lists_total nat_list_cmp_total

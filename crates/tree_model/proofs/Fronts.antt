@@ -12,7 +12,7 @@ use Rattle.std.proofs.lemmas.Bool.{eqb-true}
 use Rattle.std.proofs.lemmas.List.{take_at}
 use Rattle.vol_numbers.specs.Name.{padded}
 use Rattle.tree_model.specs.Path.{Path, path_cmp, name_eq, is_root, parent_of, strip}
-use Rattle.tree_model.proofs.Puts.{same_path}
+use Rattle.tree_model.proofs.Paths.{same_path, same_name, same_test}
 use Rattle.tree_model.proofs.AttemptLaws.{path_total}
 
 abbrev pub tie : Path → Path → Bool
@@ -32,12 +32,6 @@ tie_itself p = ap is_eq (tied_itself path_total p)
 pub tie_same : (q p : Path) → q ≡ p → tie q p ≡ true
 tie_same q p e = subst (λ (x : Path). tie q x ≡ true) e (tie_itself q)
 
--- two tests that imply each other are one
-pub same_test : (a b : Bool) → (a ≡ true → b ≡ true) → (b ≡ true → a ≡ true) → a ≡ b
-same_test true b f g = sym (f refl)
-same_test false true f g = g refl
-same_test false false f g = refl
-
 pub test_fails : (a : Bool) → (a ≡ true → ⊥) → a ≡ false
 test_fails true f = absurd (f refl)
 test_fails false f = refl
@@ -45,46 +39,6 @@ test_fails false f = refl
 -- whether two paths are one
 pub decide : (q p : Path) → (q ≡ p) ⊎ (tie q p ≡ false)
 decide q p = elim (tie q p) as (λ b. tie q p ≡ b → (q ≡ p) ⊎ (tie q p ≡ false)) [ true ↦ λ e. inl (tie_is q p e) | false ↦ λ e. inr e ] refl
-
-same_name : (a b : List ℕ) → name_eq a b ≡ true → a ≡ b
-same_name [] [] e = refl
-same_name [] (y ∷ ys) e = cc
-same_name (x ∷ xs) [] e = cc
-same_name (x ∷ xs) (y ∷ ys) e =
-    elim (nat_eq x y) as (λ b. nat_eq x y ≡ b → (b && name_eq xs ys) ≡ true → x ∷ xs ≡ y ∷ ys) [
-      | true ↦ λ is rest. let head : x ≡ y = eqb-true x y is in let tail : xs ≡ ys = same_name xs ys rest in cc
-      | false ↦ λ isnt rest. cc
-    ] refl e
-
--- two names as they are compared: their lengths, and their bytes with the zeros behind them
-abbrev pub padded_eq : List ℕ → List ℕ → Bool
-padded_eq a b = nat_eq (length a) (length b) && name_eq (padded a) (padded b)
-
-padded_is : (a b : List ℕ) → padded_eq b a ≡ name_eq a b
-padded_is a b = same_test (padded_eq b a) (name_eq a b)
-    (λ e.
-    let long : length b ≡ length a = eqb-true (length b) (length a) (first_so _ _ e) in
-    let bytes : padded b ≡ padded a = same_name (padded b) (padded a) (second_so _ _ e) in
-    let is : a ≡ b = sym (take_at a (replicate (250 - length a) 0) (length a) refl) ∙ ap (take (length a)) (sym bytes) ∙ take_at b (replicate (250 - length b) 0) (length a) long in
-    subst (λ (x : List ℕ). name_eq a x ≡ true) is (nat_list_eq_equiv.refl a))
-    (λ e. subst (λ (x : List ℕ). padded_eq x a ≡ true) (same_name a b e) (λ i. nat_eq_equiv.refl (length a) i && nat_list_eq_equiv.refl (padded a) i))
-
-strip_by : (front path : Path) → strip front path ≡ (if pointwise padded_eq (take (length front) path) front then Some (drop (length front) path) else None)
-strip_by [] path = refl
-strip_by (name ∷ front) [] = refl
-strip_by (name ∷ front) (other ∷ path) =
-    let found : Bool = pointwise padded_eq (take (length front) path) front in
-    let rest : Option Path = Some (drop (length front) path) in
-    ap (λ (b : Bool). if b then strip front path else None) (sym (padded_is name other))
-    ∙ elim (padded_eq other name) as (λ b. (if b then strip front path else None) ≡ (if b && found then rest else None)) [ true ↦ strip_by front path | false ↦ refl ]
-
--- what `strip_prefix` answers of a path
-pub strip_either : {X : Type 0} (f : X → Path) (r : Option X) (front path : Path)
-    → MatchOption r (pointwise padded_eq (take (length front) path) front ≡ false)
-    (λ x. (pointwise padded_eq (take (length front) path) front ≡ true) × (f x ≡ drop (length front) path) × (length (f x) + length front ≡ length path))
-    → option_map f r ≡ strip front path
-strip_either f None front path differs = sym (strip_by front path ∙ ap (λ (b : Bool). if b then Some (drop (length front) path) else None) differs)
-strip_either f (Some x) front path same = ap Some same.1 ∙ sym (strip_by front path ∙ ap (λ (b : Bool). if b then Some (drop (length front) path) else None) same.0)
 
 pub strip_is : (front q r : Path) → strip front q ≡ Some r → q ≡ front ++ r
 strip_is [] q r e = cc

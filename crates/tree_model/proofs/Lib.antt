@@ -4,12 +4,8 @@ pub mod ByteLaws
 pub mod EntryCounts
 pub mod Fronts
 pub mod Lookups
-pub mod Moves
 pub mod Numbers
-pub mod Orders
-pub mod Parents
-pub mod PutRules
-pub mod Puts
+pub mod Paths
 pub mod RefusalLaws
 pub mod RenameLaws
 pub mod Renames
@@ -18,4 +14,3 @@ pub mod StepFollows
 pub mod StepShapes
 pub mod StepWidths
 pub mod TouchLaws
-pub mod Walks

@@ -11,9 +11,9 @@ use Rattle.tree_model.specs.declared.node.Content.TheVariants.{File, Directory}
 use Rattle.tree_model.specs.Path.{Path, path_cmp, strip}
 use Rattle.tree_model.specs.Tree.{Tree, node_at, without, with_width, with_content_width, widened, new_path, renamed, moved_onto, entries_of, entry_below}
 use Rattle.tree_model.specs.Shape.{came_from, after_rename}
-use Rattle.tree_model.proofs.Puts.{same_path}
+use Rattle.tree_model.proofs.Paths.{same_path, same_test}
 use Rattle.tree_model.proofs.AttemptLaws.{put_at}
-use Rattle.tree_model.proofs.Fronts.{tie, tie_is, tie_same, same_test, test_fails, strip_is, strip_back, strip_none}
+use Rattle.tree_model.proofs.Fronts.{tie, tie_is, tie_same, test_fails, strip_is, strip_back, strip_none}
 
 pub without_at : (tree : Tree) (path q : Path) → node_at (without tree path) q ≡ cond (not (tie path q)) (node_at tree q) None
 without_at tree path q = find-where_key path_cmp (λ x. not (tie path x)) q (λ x e. ap (λ y. not (tie path y)) (sym (same_path q x e))) tree

@@ -1,9 +1,7 @@
-pub mod Attempts
 pub mod Follow
 pub mod Laws
 pub mod Order
 pub mod Path
-pub mod Places
 pub mod Refusal
 pub mod Shape
 pub mod Step

@@ -1,17 +1,11 @@
-//! The tree: its commands and replies, what each command does to it, and a plain tree that does just that.
+//! The tree: its commands and replies, what each command does to it, and the laws of that.
 #![tactic(auto)]
 
 mod command;
-mod file_bytes;
 mod laws;
 mod node;
-mod node_list;
 mod path;
-mod path_names;
-mod plain_step;
-mod plain_tree;
 mod refusal;
-mod refusals;
 mod reply;
 mod report;
 
@@ -23,7 +17,6 @@ pub use laws::{
 };
 pub use node::{Content, NameList, Node};
 pub use path::{BadPath, Path};
-pub use plain_tree::PlainTree;
 pub use refusal::Refusal;
 pub use reply::{Entry, EntryList, Kind, Piece, PieceList, Reply};
 pub use report::{Answer, Line, LineKind, LineList, Report};

@@ -4,6 +4,10 @@
 #[cfg(test)]
 mod acts;
 #[cfg(test)]
+mod damage;
+#[cfg(test)]
+mod logs;
+#[cfg(test)]
 mod records;
 #[cfg(test)]
 mod sessions;

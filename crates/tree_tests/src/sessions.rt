@@ -1,10 +1,9 @@
 //! Sessions on the plain tree, with the replies that the rules give.
 use crate::acts::{Act, command};
+use plain_tree::PlainTree;
 use std::alloc::Global;
 use std::test::Fail;
-use tree_model::{
-    Command, Entry, Kind, NameList, Path, Payload, PlainTree, ReadLength, Refusal, Reply,
-};
+use tree_model::{Command, Entry, Kind, NameList, Path, Payload, ReadLength, Refusal, Reply};
 use vol_numbers::{ByteList, Name};
 
 /// What an act is answered.
