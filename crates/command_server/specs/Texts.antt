@@ -1,7 +1,7 @@
 -- What is written.
 use Rattle.std.specs.Prelude.{ℕ, List, ◌++◌, codes, decimal}
 use Rattle.std.specs.List.{flat_map}
-use Rattle.command_text.specs.Replies.{reply_text}
+use Rattle.reply_text.specs.Replies.{reply_text}
 use Rattle.log_volume.specs.declared.answer.Answer.{Answer}
 use Rattle.log_volume.specs.declared.answer.Answer.TheVariants.{Reply, LogFull}
 use Rattle.log_volume.specs.declared.finding.Finding.{Finding}

@@ -3,7 +3,7 @@ use Rattle.std.specs.Prelude.{ℕ, ◌^◌, ◌==◌, ◌&&◌, not, nat_lt, nat
 use Rattle.std.specs.Borrow.{Bor}
 use Rattle.std.specs.Option.{option_map}
 use Rattle.vol_numbers.specs.Layout.{Layout, area_size}
-use Rattle.command_text.specs.Numbers.{number_in}
+use Rattle.line_text.specs.Numbers.{number_in}
 use Rattle.command_server.specs.declared.words.FormatOptions.{FormatOptions}
 
 -- the bytes of each word

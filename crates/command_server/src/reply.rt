@@ -1,14 +1,14 @@
 //! The lines that are written.
 ghost use Rattle.std.specs.Prelude.{codes};
 ghost use Rattle.vol_numbers.specs.Cause.{HasCause};
-ghost use Rattle.command_text.specs.Putting.{PutsText, PutsAnswer, HasPutCause};
-ghost use Rattle.command_text.specs.Replies.{reply_text};
+ghost use Rattle.reply_text.specs.Putting.{PutsText, PutsAnswer, HasPutCause};
+ghost use Rattle.reply_text.specs.Replies.{reply_text};
 ghost use Rattle.command_server.specs.Texts.{usage_text, formatted_text, finding_text, bad_log_text, answered_text};
 
 use arrayvec::ArrayString;
-use command_text::{PutFault, write_reply};
 use itoa::Buffer;
 use log_volume::{Answer, Finding};
+use reply_text::{PutFault, write_reply};
 use std::alloc::Global;
 use tree_model::Reply;
 use wire_ends::{Sink, SinkFault};

@@ -18,9 +18,10 @@ ghost use Rattle.command_server.specs.Texts.{answered_text};
 
 use crate::Status;
 use crate::reply::put_answer;
-use command_text::{CommandReader, Item, PutFault, TextFault};
+use command_text::{CommandReader, Item, TextFault};
 use disk_model::Disk;
 use log_volume::{Answer, LogVolume, Stopped};
+use reply_text::PutFault;
 use std::alloc::Global;
 use tree_model::Reply;
 use wire_ends::{Sink, Source};

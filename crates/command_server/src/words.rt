@@ -4,7 +4,7 @@ ghost use Rattle.command_server.specs.Words.{bytes_of_words, no_options, request
 ghost use Rattle.vol_numbers.specs.Geometry.{layout_of};
 ghost use Rattle.command_server.specs.Asked.{asked};
 
-use command_text::read_number;
+use line_text::read_number;
 use vol_numbers::Geometry;
 
 /// The options of a format, as far as they were given.

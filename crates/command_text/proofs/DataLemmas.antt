@@ -7,10 +7,10 @@ use Rattle.command_text.specs.declared.fault.TextFault.{TextFault}
 use Rattle.command_text.specs.declared.fault.TextFault.TheVariants.{BadStream, OutOfMemory}
 use Rattle.command_text.specs.declared.item.Item.{Item}
 use Rattle.command_text.specs.declared.item.Item.TheVariants as item
-use Rattle.command_text.specs.declared.line.Said.TheVariants as line
+use Rattle.line_text.specs.declared.line.Said.TheVariants as line
 use Rattle.tree_model.specs.declared.command.Command.{Command}
 use Rattle.tree_model.specs.declared.refusal.Refusal.{Refusal}
-use Rattle.command_text.specs.Lines.{line_in}
+use Rattle.line_text.specs.Lines.{line_in}
 use Rattle.command_text.specs.Front.{write_of, is_newline}
 use Rattle.command_text.specs.Reading.{Reading, Undecided}
 use Rattle.command_text.specs.Filling.{Fills, IsShorter, LineEnds, AsksToWrite, Fails, Reads, Answers, IsWhole}

@@ -3,7 +3,7 @@ use Rattle.std.proofs.Common.{◌≡◌, ◌∙◌, ◌+◌, ◌++◌, ℕ, List
 use Rattle.std.proofs.Common.{◌<◌, ◌∷◌, Option, Some, None, Result, Ok, Err}
 use Rattle.std.proofs.Common.{⊎_elim}
 use Rattle.command_text.specs.Front.{is_newline}
-use Rattle.command_text.proofs.PlaceLemmas.{place_of_found}
+use Rattle.line_text.proofs.PlaceLemmas.{place_of_found}
 use Rattle.std.specs.Prelude.{IsTrue, IfOk, IfErr, IfNone}
 use Rattle.std.proofs.lemmas.List.{append-nil}
 use Rattle.command_text.specs.declared.fault.TextFault.{TextFault}

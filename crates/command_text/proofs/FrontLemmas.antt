@@ -8,13 +8,13 @@ use Rattle.std.proofs.lemmas.List.{take-append-le, drop-append-le}
 use Rattle.tree_model.specs.declared.command.Command.{Command}
 use Rattle.tree_model.specs.declared.refusal.Refusal.{Refusal}
 use Rattle.command_text.specs.declared.item.Item.TheVariants as item
-use Rattle.command_text.specs.declared.line.Said.{Said}
-use Rattle.command_text.specs.declared.line.Said.TheVariants as line
-use Rattle.command_text.specs.Lines.{line_in}
+use Rattle.line_text.specs.declared.line.Said.{Said}
+use Rattle.line_text.specs.declared.line.Said.TheVariants as line
+use Rattle.line_text.specs.Lines.{line_in}
 use Rattle.command_text.specs.Front.{front, front_up_to, front_of_line, front_of_data, write_of, is_newline}
 use Rattle.command_text.specs.Front.Front.{Whole, Wrong, Partial}
 use Rattle.command_text.specs.Filling.{LineEnds, AsksToWrite, IsWrong, IsWhole}
-use Rattle.command_text.proofs.PlaceLemmas.{place_of_found, found_before_more, found_behind}
+use Rattle.line_text.proofs.PlaceLemmas.{place_of_found, found_before_more, found_behind}
 
 le_true : (a b : ℕ) → a ≤ b → nat_le a b ≡ true
 le_true a b le = grind (arith, nat_tests)

@@ -1,19 +1,9 @@
-pub mod NeedLemmas
-pub mod AnswerLemmas
-pub mod ReplyLemmas
-pub mod TellLemmas
-pub mod ListPuts
-pub mod EscapeLemmas
-pub mod ReadLemmas
-pub mod DataLemmas
-pub mod FrontLemmas
-pub mod FillLemmas
-pub mod HeldLemmas
-pub mod LineLemmas
-pub mod NameLemmas
-pub mod NumberLemmas
-pub mod PieceLemmas
-pub mod PlaceLemmas
-pub mod PathLemmas
-pub mod SpellingLemmas
-pub mod ReadBackLemmas
+mod DataLemmas
+mod FillLemmas
+mod FrontLemmas
+mod HeldLemmas
+mod NeedLemmas
+mod PieceLemmas
+mod ReadBackLemmas
+mod ReadLemmas
+mod SpellingLemmas

@@ -5,13 +5,13 @@ use Rattle.std.proofs.lemmas.Bool.{cases_lt, cases_Bool}
 use Rattle.tree_model.specs.declared.command.Command.{Command}
 use Rattle.tree_model.specs.declared.refusal.Refusal.{Refusal}
 use Rattle.command_text.specs.declared.item.Item.{Item}
-use Rattle.command_text.specs.declared.line.Said.TheVariants as line
-use Rattle.command_text.specs.Lines.{line_in}
+use Rattle.line_text.specs.declared.line.Said.TheVariants as line
+use Rattle.line_text.specs.Lines.{line_in}
 use Rattle.command_text.specs.Front.{is_newline}
 use Rattle.command_text.specs.Front.Front.{Whole, Wrong, Partial}
 use Rattle.command_text.specs.Reading.{Undecided}
 use Rattle.command_text.specs.Filling.{LineEnds, AsksToWrite}
-use Rattle.command_text.proofs.PlaceLemmas.{found_in_front}
+use Rattle.line_text.proofs.PlaceLemmas.{found_in_front}
 use Rattle.command_text.proofs.FrontLemmas.{front_command, front_refused, front_unended, front_written, line_with_more}
 
 whole_is_not_partial : (item : Item) (count : ℕ) → Whole item count ≡ Partial → ⊥

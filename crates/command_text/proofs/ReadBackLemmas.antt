@@ -13,22 +13,22 @@ use Rattle.tree_model.specs.declared.command.Command.{Command}
 use Rattle.tree_model.specs.declared.command.Command.TheVariants.{Mkdir, Create, Write, Truncate, Remove, Rename, Read, List as ListOf, Stat, Layout, Space, Checkpoint, End}
 use Rattle.command_text.specs.declared.item.Item.{Item}
 use Rattle.command_text.specs.declared.item.Item.TheVariants as item
-use Rattle.command_text.specs.declared.line.Said.{Said}
-use Rattle.command_text.specs.declared.line.Said.TheVariants as line
-use Rattle.command_text.specs.declared.verb.PathVerb.{PathVerb}
-use Rattle.command_text.specs.declared.verb.PathVerb.TheVariants as verb
+use Rattle.line_text.specs.declared.line.Said.{Said}
+use Rattle.line_text.specs.declared.line.Said.TheVariants as line
+use Rattle.line_text.specs.declared.verb.PathVerb.{PathVerb}
+use Rattle.line_text.specs.declared.verb.PathVerb.TheVariants as verb
 use Rattle.command_text.specs.Filling.{LineEnds, AsksToWrite, IsWhole}
 use Rattle.command_text.specs.Front.{front, is_newline, write_of}
-use Rattle.command_text.specs.Lines.{line_in, line_of_parts, path_verb, path_line, on_path, command_on, truncate_line, rename_line, read_line, write_line}
-use Rattle.command_text.specs.Numbers.{length_in}
-use Rattle.command_text.specs.Paths.{path_in}
+use Rattle.line_text.specs.Lines.{line_in, line_of_parts, path_verb, path_line, on_path, command_on, truncate_line, rename_line, read_line, write_line}
+use Rattle.line_text.specs.Numbers.{length_in}
+use Rattle.line_text.specs.Paths.{path_in}
 use Rattle.command_text.specs.ReadBack.{IsCommandPath, IsCommand, ReadsBack}
 use Rattle.command_text.specs.Spelling.{path_spelling, spelling}
 use Rattle.command_text.specs.Text.{Text, next, next_from, is_end}
 use Rattle.command_text.specs.Text.Next.{Given}
 use Rattle.command_text.proofs.FrontLemmas.{whole_command, whole_written}
-use Rattle.command_text.proofs.LineLemmas.{line_of_split, two_fields, three_fields, four_fields}
-use Rattle.command_text.proofs.PlaceLemmas.{found_at}
+use Rattle.line_text.proofs.LineLemmas.{line_of_split, two_fields, three_fields, four_fields}
+use Rattle.line_text.proofs.PlaceLemmas.{found_at}
 use Rattle.command_text.proofs.SpellingLemmas.{IsOfField, path_back, path_of_field, path_short, number_back, number_of_field, number_short, length_back}
 
 -- ---- fields

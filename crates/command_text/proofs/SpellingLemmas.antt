@@ -13,15 +13,15 @@ use Rattle.percent_encoding.specs.Percent.{percent_encode_byte, percent_decode}
 use Rattle.percent_encoding.proofs.PercentLemmas.{IsEscapeByte, All-percent_encode_byte, length-percent_decode}
 use Rattle.vol_numbers.specs.Name.{IsName}
 use Rattle.tree_model.specs.Path.{Path, path_length}
-use Rattle.command_text.specs.Numbers.{number_in, length_in, at_most_one_payload, is_decimal}
-use Rattle.command_text.specs.Paths.{is_name, is_path, names_in, path_in, path_of_names}
+use Rattle.line_text.specs.Numbers.{number_in, length_in, at_most_one_payload, is_decimal}
+use Rattle.line_text.specs.Paths.{is_name, is_path, names_in, path_in, path_of_names}
 use Rattle.command_text.specs.ReadBack.{IsCommandPath}
-use Rattle.command_text.specs.Replies.{needs_escape, escaped, escaped_byte}
+use Rattle.reply_text.specs.Replies.{needs_escape, escaped, escaped_byte}
 use Rattle.command_text.specs.Spelling.{name_spelling, path_spelling}
-use Rattle.command_text.specs.Telling.{IsByte}
-use Rattle.command_text.proofs.NameLemmas.{name_passes, other}
-use Rattle.command_text.proofs.NumberLemmas.{own, fits}
-use Rattle.command_text.proofs.TellLemmas.{name_decoded}
+use Rattle.reply_text.specs.Telling.{IsByte}
+use Rattle.line_text.proofs.NameLemmas.{name_passes, other}
+use Rattle.line_text.proofs.NumberLemmas.{own, fits}
+use Rattle.reply_text.proofs.TellLemmas.{name_decoded}
 
 -- a byte that ends no name, no field and no line
 pub record IsInside (b : ℕ) : Type 0 where

@@ -5,10 +5,10 @@ use Rattle.command_text.specs.declared.item.Item.{Item}
 use Rattle.command_text.specs.declared.item.Item.TheVariants as item
 use Rattle.command_text.specs.declared.fault.TextFault.{TextFault}
 use Rattle.command_text.specs.declared.fault.TextFault.TheVariants.{Source, BadStream, Budget, OutOfMemory}
-use Rattle.command_text.specs.declared.line.Said.TheVariants as line
+use Rattle.line_text.specs.declared.line.Said.TheVariants as line
 use Rattle.command_text.specs.declared.line_end.LineEnd.{LineEnd}
 use Rattle.command_text.specs.declared.line_end.LineEnd.TheVariants.{At, TooLong, Missing}
-use Rattle.command_text.specs.Lines.{line_in}
+use Rattle.line_text.specs.Lines.{line_in}
 use Rattle.command_text.specs.Front.{front, is_newline}
 use Rattle.command_text.specs.Front.Front.{Whole, Wrong}
 use Rattle.command_text.specs.Reading.{Reading, Undecided, TakesNeeded, settled}

@@ -4,9 +4,9 @@ use Rattle.tree_model.specs.declared.command.Command.TheVariants as command
 use Rattle.tree_model.specs.declared.refusal.Refusal.TheVariants.{BadName}
 use Rattle.command_text.specs.declared.item.Item.{Item}
 use Rattle.command_text.specs.declared.item.Item.TheVariants as item
-use Rattle.command_text.specs.declared.line.Said.{Said}
-use Rattle.command_text.specs.declared.line.Said.TheVariants as line
-use Rattle.command_text.specs.Lines.{line_in}
+use Rattle.line_text.specs.declared.line.Said.{Said}
+use Rattle.line_text.specs.declared.line.Said.TheVariants as line
+use Rattle.line_text.specs.Lines.{line_in}
 
 -- an item with how many bytes spell it, what begins no item however it goes on, or less than an item
 pub data Front : Type 0 where

@@ -1,13 +1,7 @@
 pub mod Filling
 pub mod Front
 pub mod Holding
-pub mod Lines
-pub mod Numbers
-pub mod Paths
-pub mod Putting
 pub mod ReadBack
 pub mod Reading
-pub mod Replies
 pub mod Spelling
-pub mod Telling
 pub mod Text

@@ -6,7 +6,7 @@ use Rattle.tree_model.specs.declared.command.Command.{Command}
 use Rattle.tree_model.specs.declared.command.Command.TheVariants.{Mkdir, Create, Write, Truncate, Remove, Rename, Read, List as ListOf, Stat, Layout, Space, Checkpoint, End}
 use Rattle.command_text.specs.declared.item.Item.TheVariants as item
 use Rattle.command_text.specs.Spelling.{spelling}
-use Rattle.command_text.specs.Telling.{IsByte}
+use Rattle.reply_text.specs.Telling.{IsByte}
 use Rattle.command_text.specs.Text.{next, is_end_command}
 use Rattle.command_text.specs.Text.Next.{Given}
 

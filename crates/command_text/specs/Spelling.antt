@@ -3,7 +3,7 @@ use Rattle.std.specs.Prelude.{ℕ, List, [], ◌∷◌, ◌++◌, length, codes,
 use Rattle.std.specs.List.{flat_map}
 use Rattle.tree_model.specs.declared.command.Command.{Command}
 use Rattle.tree_model.specs.declared.command.Command.TheVariants.{Mkdir, Create, Write, Truncate, Remove, Rename, Read, List as ListOf, Stat, Layout, Space, Checkpoint, End}
-use Rattle.command_text.specs.Replies.{escaped}
+use Rattle.reply_text.specs.Replies.{escaped}
 
 -- a name with a slash before it, escaped as replies write it
 abbrev pub name_spelling : List ℕ → List ℕ

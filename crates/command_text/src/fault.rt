@@ -1,4 +1,4 @@
-//! Why nothing was read, and why nothing was put.
+//! Why nothing was read.
 use thiserror::Error;
 
 /// No item was read.
@@ -14,17 +14,6 @@ pub enum TextFault {
     #[error("the budget is spent")]
     Budget,
     /// Memory was wanting.
-    #[error("memory was wanting")]
-    OutOfMemory,
-}
-
-/// A text wasn't put whole.
-#[derive(Clone, Copy, Debug, PartialEq, Eq, Error)]
-pub enum PutFault {
-    /// A call of the sink failed.
-    #[error("a call of the sink failed")]
-    Sink,
-    /// Memory was wanting, before anything was put.
     #[error("memory was wanting")]
     OutOfMemory,
 }

@@ -5,7 +5,7 @@ ghost use Rattle.command_text.specs.Filling.{FindsLineEnd};
 ghost use Rattle.command_text.specs.declared.line_end.LineEnd.TheVariants.{Missing};
 
 /// How many bytes a line has at most, without its newline.
-pub(crate) const LONGEST_LINE: usize = 8_192;
+const LONGEST_LINE: usize = 8_192;
 
 /// What the end of the first line is.
 #[derive(Clone, Copy)]

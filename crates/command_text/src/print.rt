@@ -1,19 +1,17 @@
 //! The one spelling of a command.
-ghost use Rattle.std.specs.Prelude.{◌≡◌, ◌++◌, codes, IfOk, OnOk, All};
+ghost use Rattle.std.specs.Prelude.{◌≡◌, ◌++◌, codes, length, IfOk, OnOk, All};
 ghost use Rattle.std.specs.String.{string_bytes};
-ghost use Rattle.command_text.specs.Putting.{PutsText, PutsAnswer, HasPutCause};
+ghost use Rattle.reply_text.specs.Putting.{PutsText, PutsAnswer, HasPutCause};
 ghost use Rattle.command_text.specs.ReadBack.{IsCommandPath, IsCommand, ReadsBack};
-ghost use Rattle.command_text.specs.Telling.{IsByte};
+ghost use Rattle.reply_text.specs.Telling.{IsByte};
 ghost use Rattle.vol_numbers.specs.Name.{IsName};
 ghost use Rattle.command_text.specs.Spelling.{name_spelling, path_spelling, spelling, number_spelling, line_spelling, data_spelling};
 ghost use Rattle.vol_numbers.specs.Cause.{HasCause};
 
-use crate::PutFault;
-use crate::escape::push_escaped;
-use crate::replies::{TEXT_ROOM, put_with_data};
 use itoa::Buffer;
+use reply_text::{PutFault, TEXT_ROOM, push_escaped, put_with_data};
 use std::alloc::{AllocError, Global};
-use tree_model::{Command, Path};
+use tree_model::{Command, Path, Payload};
 use vol_numbers::Name;
 use wire_ends::{PutBuffer, Sink, SinkFault};
 
@@ -80,6 +78,20 @@ fn push_part(
     push_number(text, count)
 }
 
+/// Appends a write of so many bytes, without them.
+fn push_write(
+    text: &mut String,
+    path: &Path,
+    offset: u64,
+    bytes: &Payload,
+) -> Result<(), AllocError>
+    ensures path { OnOk result (IsCommandPath path.now) }
+    ensures text { OnOk result (string_bytes text.new ≡ string_bytes text.old ++ (codes "write " ++ path_spelling path.now ++ number_spelling offset ++ number_spelling (length bytes.now))) }
+{
+    let count = bytes.as_slice().len();
+    push_part(text, "write ", path, offset, count as u64)
+}
+
 fn push_both(text: &mut String, from: &Path, to: &Path) -> Result<(), AllocError>
     ensures from { OnOk result (IsCommandPath from.now) }
     ensures to { OnOk result (IsCommandPath to.now) }
@@ -101,7 +113,7 @@ fn push_line(text: &mut String, command: &Command) -> Result<(), AllocError>
             path,
             offset,
             bytes,
-        } => push_part(text, "write ", path, *offset, bytes.as_slice().len() as u64),
+        } => push_write(text, path, *offset, bytes),
         Command::Truncate { path, size } => push_sized(text, "truncate ", path, *size),
         Command::Remove { path } => push_on_path(text, "remove ", path),
         Command::Rename { from, to } => push_both(text, from, to),

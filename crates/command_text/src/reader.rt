@@ -5,9 +5,9 @@ ghost use Rattle.command_text.specs.Text.{is_end};
 ghost use Rattle.command_text.specs.declared.fault.TextFault.TheVariants.{Source, BadStream, Budget, OutOfMemory};
 
 use crate::held::Held;
-use crate::line::{Said, line_in};
 use crate::line_end::{LineEnd, line_end};
 use crate::{Item, TextFault};
+use line_text::{Said, line_in};
 use std::alloc::{AllocError, Global};
 use std::marker::Model;
 use tree_model::{Command, Path, Payload, ReadLength, Refusal, TooLong};

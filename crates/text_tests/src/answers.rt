@@ -1,5 +1,5 @@
 //! The text of each answer, by the format's rules.
-use command_text::write_reply;
+use reply_text::write_reply;
 use std::alloc::Global;
 use std::test::Fail;
 use tree_model::{

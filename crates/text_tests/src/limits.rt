@@ -1,5 +1,6 @@
 //! Sessions at their limits: the budget, the longest line, the most data, and a source that fails.
-use command_text::{CommandReader, Item, TextFault, print_command, write_reply};
+use command_text::{CommandReader, Item, TextFault, print_command};
+use reply_text::write_reply;
 use std::alloc::Global;
 use std::test::Fail;
 use tree_model::{Answer, Command, Refusal, Reply};

@@ -1,6 +1,6 @@
 //! In how many writes an answer goes out.
 use crate::answers::{laid_out, listed, reported};
-use command_text::write_reply;
+use reply_text::write_reply;
 use std::alloc::Global;
 use std::io;
 use std::io::Write;

@@ -1,5 +1,5 @@
 use Rattle.std.proofs.Common.{sym, subst}
-use Rattle.command_text.specs.Putting.{PutsText}
+use Rattle.reply_text.specs.Putting.{PutsText}
 use Rattle.command_server.specs.Texts.{finding_text}
 use Rattle.log_volume.specs.declared.finding.Finding.{Finding}
 use Rattle.command_server.proofs.reply.put_finding.Goals as goal

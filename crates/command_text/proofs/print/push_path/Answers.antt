@@ -7,7 +7,7 @@ use Rattle.std.proofs.lemmas.List.Concat.{flat_map-append}
 use Rattle.std.proofs.lemmas.List.Elements.{All-more}
 use Rattle.vol_numbers.specs.Name.{IsName}
 use Rattle.command_text.specs.Spelling.{name_spelling}
-use Rattle.command_text.specs.Telling.{IsByte}
+use Rattle.reply_text.specs.Telling.{IsByte}
 use Rattle.command_text.proofs.print.push_path.Goals as goal
 
 -- the names up to one more

@@ -4,7 +4,7 @@ use Rattle.std.specs.List.{flat_map}
 use Rattle.std.specs.String.{string_bytes}
 use Rattle.vol_numbers.specs.Name.{IsName}
 use Rattle.command_text.specs.Spelling.{name_spelling}
-use Rattle.command_text.specs.Telling.{IsByte}
+use Rattle.reply_text.specs.Telling.{IsByte}
 use Rattle.command_text.proofs.print.push_path.Given as goal
 
 abbrev pub invariant-loop-name : goal.invariant-loop-name

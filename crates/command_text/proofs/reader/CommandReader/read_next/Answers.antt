@@ -1,5 +1,5 @@
 use Rattle.std.proofs.Common.{◌≡◌, ◌∙◌, ◌+◌, ℕ, List, take, drop, ap, sym}
-use Rattle.command_text.specs.Lines.{line_in}
+use Rattle.line_text.specs.Lines.{line_in}
 use Rattle.command_text.specs.Holding.{Holding}
 use Rattle.command_text.specs.Reading.{Reading}
 use Rattle.command_text.proofs.DataLemmas.{command_read, refused_read}

@@ -1,0 +1,5 @@
+pub mod LineLemmas
+pub mod NameLemmas
+pub mod NumberLemmas
+mod PathLemmas
+pub mod PlaceLemmas

@@ -1,0 +1,5 @@
+mod AnswerLemmas
+mod EscapeLemmas
+mod ListPuts
+mod ReplyLemmas
+pub mod TellLemmas
