@@ -1,1 +1,7 @@
+mod HeightLaws
+pub mod InodeLaws
+mod PartLaws
 pub mod RootLaws
+pub mod SlotLaws
+mod Tests
+pub mod WordLaws
