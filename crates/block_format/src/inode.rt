@@ -108,7 +108,7 @@ pub fn read_inode(from: &Block, k: u32, g: &Geometry) -> Option<Inode>
     }
 }
 
-/// The inode k of a block, wherever it points to. None exactly where it is outside the grammar in another way than by its pointer's place.
+/// The inode k of a block, whichever block it points to. None exactly where its bytes break a rule other than that of the pointer's place.
 pub fn read_any_inode(from: &Block, k: u32) -> Option<Inode>
     requires { k < 64 }
     ensures found { IfSome result (λ inode. IsInode inode (inode_part k from.now.bytes)) }

@@ -236,8 +236,15 @@ fn is_count_spelled() -> bool {
 
 fn inodes_hold(g: Geometry) -> bool {
     are_spelled(&g)
+        && NO_INODES.iter().all(|row| is_no_inode(row))
         && POINTERS_OUTSIDE.iter().all(|row| points_outside(&g, row))
         && OTHER_INODES.iter().all(|row| is_inode(&g, row))
+}
+
+fn slots_hold(name: Name) -> bool {
+    is_entry(name)
+        && NO_SLOTS.iter().all(|row| is_no_slot(row))
+        && OTHER_SLOTS.iter().all(|row| is_slot(row))
 }
 
 fn indexes_hold(g: Geometry) -> bool {
@@ -247,18 +254,19 @@ fn indexes_hold(g: Geometry) -> bool {
 #[test]
 fn inodes_are_those_of_the_format(rt: HostRuntime) {
     assert!(rt; Geometry::new(2_048, 64).is_ok_and(inodes_hold));
-    assert_eq!(rt; NO_INODES.iter().position(|row| !is_no_inode(row)), None);
 }
 
 #[test]
 fn slots_are_those_of_the_format(rt: HostRuntime) {
-    assert!(rt; Name::new(b"a").is_ok_and(is_entry));
-    assert_eq!(rt; NO_SLOTS.iter().position(|row| !is_no_slot(row)), None);
-    assert_eq!(rt; OTHER_SLOTS.iter().position(|row| !is_slot(row)), None);
+    assert!(rt; Name::new(b"a").is_ok_and(slots_hold));
 }
 
 #[test]
-fn indexes_and_counts_are_those_of_the_format(rt: HostRuntime) {
+fn indexes_are_those_of_the_format(rt: HostRuntime) {
     assert!(rt; Geometry::new(2_048, 64).is_ok_and(indexes_hold));
+}
+
+#[test]
+fn counts_are_those_of_the_format(rt: HostRuntime) {
     assert!(rt; is_count_spelled());
 }

@@ -1,4 +1,4 @@
-use Rattle.block_format.proofs.Tests.{false-true}
+use Rattle.std.proofs.lemmas.Bool.{false≢true}
 use Rattle.std.proofs.Common.{◌≡◌, ◌∙◌, ap, sym}
 use Rattle.block_format.specs.Inode.{inode_bytes}
 use Rattle.block_format.proofs.InodeLaws.{inode_in-spelled}
@@ -13,4 +13,4 @@ returns-then-not-has_shape-clause-none c = λ inode is. let e = inode_in-spelled
 pub returns-then-not-is_same-clause-none : goal.returns-then-not-is_same-clause-none
 returns-then-not-is_same-clause-none c = λ inode is. let e = inode_in-spelled inode c.args.bytes.now is in
     let same : c.in_ok-inode.inode ≡ inode = c.in_ok-inode.ensures.found ∙ e in
-    false-true (c.if-not-is_same.ensures.is.1 (c.spelled.ensures.spelled ∙ ap inode_bytes same ∙ sym is.spelled))
+    false≢true (c.if-not-is_same.ensures.is.1 (c.spelled.ensures.spelled ∙ ap inode_bytes same ∙ sym is.spelled))
