@@ -17,7 +17,7 @@ impl HomeBits {
     }
 
     /// The home of a count block.
-    pub(crate) fn home(&self, i: u32) -> u8
+    pub fn home(&self, i: u32) -> u8
         requires { i < 1024 }
         ensures { result ≡ home_bit self.now.bytes i }
     {

@@ -1,11 +1,25 @@
-//! What the blocks of a volume spell.
+//! What the blocks of a volume spell: its root, index blocks, count blocks, inodes and slots.
 #![tactic(auto)]
 
+mod bytes;
+mod counts;
 mod fields;
 mod homes;
+mod index;
+mod inode;
 mod laws;
+mod pointer;
 mod root;
+mod slot;
 
+pub use counts::{read_count, write_count};
 pub use homes::HomeBits;
-pub use laws::{root_of_spelling, same_root, spelling_reads_back};
+pub use index::{Index, read_index, read_words, write_index};
+pub use inode::{Inode, blocks_of, height_of, read_any_inode, read_inode, write_inode};
+pub use laws::{
+    counts_of_block, heights_are_least, index_of_spelling, inode_of_spelling, inode_reads_back,
+    root_of_spelling, same_counts, same_index, same_inode, same_root, same_slot, slot_of_spelling,
+    slot_reads_back, spelling_reads_back,
+};
 pub use root::{RootBody, RootShape, read_root, write_root};
+pub use slot::{Slot, read_slot, write_slot};

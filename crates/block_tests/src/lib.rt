@@ -1,5 +1,9 @@
-//! Tests of the blocks of the tree: which are free, and which are taken.
+//! Tests of the blocks of a volume: what they spell, which are free, and which are taken.
 #![tactic(auto)]
 
+#[cfg(test)]
+mod formats;
+#[cfg(test)]
+mod roots;
 #[cfg(test)]
 mod runs;

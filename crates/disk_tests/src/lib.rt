@@ -1,4 +1,4 @@
-//! Tests of disks and media in memory, and of the root of a volume.
+//! Tests of disks and media in memory.
 #![tactic(auto)]
 
 #[cfg(test)]
@@ -7,5 +7,3 @@ mod disks;
 mod media;
 #[cfg(test)]
 mod moments;
-#[cfg(test)]
-mod roots;
