@@ -4,7 +4,6 @@ ghost use Rattle.std.specs.Prelude.{◌≡◌, ◌<◌};
 use disk_model::{Disk, DiskFault, NotOpen, Pick};
 use mem_disk::{MemDisk, SureDisk};
 use std::alloc::{AllocError, Global};
-use std::test::Fail;
 use vol_numbers::{Block, BlockNo, CallList};
 
 /// A list of one call.
@@ -49,16 +48,18 @@ fn is_cut(disk: &mut MemDisk) -> bool {
         && !disk.is_open(3)
 }
 
-fn is_planned_and_cut(alloc: Global) -> Result<bool, Fail> {
+fn has_size(alloc: Global) -> Result<bool, AllocError> {
+    Ok(SureDisk::new(alloc, 4)?.blocks() == 4)
+}
+
+fn is_planned_and_cut(alloc: Global) -> Result<bool, AllocError> {
     let fails = call(alloc, 0)?;
     let mut disk = MemDisk::new(alloc, 4)?;
     Ok(disk.blocks() == 4 && fails_by_plan(&mut disk, fails) && is_cut(&mut disk))
 }
 
 #[test]
-fn disks_fail_and_are_cut(rt: HostRuntime) -> Result<(), Fail> {
-    let size = SureDisk::new(rt.alloc(), 4)?.blocks();
-    let holds = is_planned_and_cut(rt.alloc())?;
-    assert!(rt; size == 4 && holds);
-    Ok(())
+fn disks_fail_and_are_cut(rt: HostRuntime) {
+    let sized = matches!(has_size(rt.alloc()), Ok(true));
+    assert!(rt; sized && matches!(is_planned_and_cut(rt.alloc()), Ok(true)));
 }

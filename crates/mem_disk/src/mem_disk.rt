@@ -42,6 +42,9 @@ impl MemDisk {
         ensures blank { ⟦<MemDisk as Disk>⟧.state result ≡ blank 0 }
         ensures size { ⟦<MemDisk as Disk>⟧.fixed result ≡ of_size 0 }
         ensures begun { HasBegun (⟦<MemDisk as Disk>⟧.past result) }
+        ensures faults { ⟦<MemDisk as Disk>⟧.faults result ≡ 0 }
+        ensures given { ⟦<MemDisk as Disk>⟧.given result ≡ record { at = 0; block = zero_block; count = 0 } }
+        ensures plan { plan_of result ≡ no_plan }
     {
         MemDisk::of(alloc, SureDisk::none(alloc))
     }

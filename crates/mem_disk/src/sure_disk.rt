@@ -47,6 +47,7 @@ impl SureDisk {
         ensures blank { ⟦<SureDisk as Disk>⟧.state result ≡ blank 0 }
         ensures size { ⟦<SureDisk as Disk>⟧.fixed result ≡ of_size 0 }
         ensures begun { HasBegun (⟦<SureDisk as Disk>⟧.past result) }
+        ensures given { ⟦<SureDisk as Disk>⟧.given result ≡ record { at = 0; block = zero_block; count = 0 } }
     {
         SureDisk {
             alloc,

@@ -9,7 +9,7 @@ ghost use Rattle.disk_model.specs.Disk.{blank, written, synced, DuringWrite, Dur
 ghost use Rattle.mem_media.specs.declared.named.Named.{Named};
 ghost use Rattle.disk_model.specs.Past.{Adds, Keeps, HasBegun};
 ghost use Rattle.disk_model.specs.Media.{image_named, of_size};
-ghost use Rattle.mem_disk.specs.Planned.{open_plan, open_junk};
+ghost use Rattle.mem_media.specs.Planned.{open_plan, open_junk};
 ghost use Rattle.disk_model.specs.declared.media.OpenFault.TheVariants.{Failed};
 
 use crate::named::{Named, add, change_over, is_name, place};

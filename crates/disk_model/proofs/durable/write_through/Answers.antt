@@ -23,4 +23,4 @@ returns-in_err-write_block-clause-left g c = on_err c.from_residual.result (λ t
 
 pub returns-clause-left : goal.returns-clause-left
 returns-clause-left g c =
-    on_err_weaker c.sync.result (λ same tells. record { block = c.args.block.now; is = same tells ∙ c.in_ok-write_block.ensures.written tells }) c.sync.ensures.not_synced
+    on_err_weaker c.sync.result (λ same tells. record { block = _; is = same tells ∙ c.in_ok-write_block.ensures.written tells }) c.sync.ensures.not_synced
