@@ -1,5 +1,7 @@
-//! Tests of the blocks of the tree: which are free, and which are taken.
+//! Tests of the blocks of the tree: which are free, which are taken, and how often each is pointed to.
 #![tactic(auto)]
 
+#[cfg(test)]
+mod counts;
 #[cfg(test)]
 mod runs;

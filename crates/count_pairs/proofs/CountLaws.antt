@@ -1,7 +1,6 @@
 -- Counts block by block.
-use Rattle.std.proofs.Common.{◌≡◌, ◌≢◌, ◌<◌, ◌≤◌, ℕ, zero, suc, ◌+◌, ◌*◌, ◌/◌, ◌-◌, Bool, true, false, List, [], ◌∷◌, ◌++◌, length, take, drop, set, refl, ap, sym, ◌∙◌, subst, arith, ⊎_elim}
-use Rattle.std.specs.Prelude.{◌⊎◌, slice_set}
-use Rattle.std.proofs.Common.{inl, inr}
+use Rattle.std.proofs.Common.{◌≡◌, ◌≢◌, ◌<◌, ◌≤◌, ℕ, zero, suc, ◌+◌, ◌*◌, ◌/◌, ◌-◌, Bool, true, false, List, [], ◌∷◌, ◌++◌, length, take, drop, set, refl, ap, sym, ◌∙◌, subst, arith, inl, inr, ◌⊎◌, ⊎_elim}
+use Rattle.std.specs.Prelude.{slice_set}
 use Rattle.std.proofs.lemmas.Bool.{cases_Bool, cases_eq, false≢true}
 use Rattle.std.proofs.lemmas.List.{drop_at, drop_all, drop-append-le, take-append-le, take_all, length-drop, take-append-drop, drop-set-lt, drop-set-add, take-set-le, get_or-set_same, get_or-set_other, length-set}
 use Rattle.disk_model.specs.Disk.{Given}
@@ -119,3 +118,7 @@ all_stand before after old_homes new_homes t counts touched same_counts same_tou
 -- what stands is kept, whatever was touched
 pub stand_kept : (read : Blocks) (homes counts : List ℕ) (touched : List Bool) → AllStand read homes (length touched) counts → IsKept read homes (record { counts = counts; touched = touched })
 stand_kept read homes counts touched stand = record { each = λ i lt not. stand.each i lt }
+
+-- what is kept stays so while the named homes keep their bytes
+pub still_kept : (before after : Blocks) (homes : List ℕ) (t : Table) → ((i : ℕ) → after (home_of homes i) ≡ before (home_of homes i)) → IsKept before homes t → IsKept after homes t
+still_kept before after homes t same kept = record { each = λ i lt not. ap words (same i) ∙ kept.each i lt not }

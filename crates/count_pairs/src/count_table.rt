@@ -123,7 +123,10 @@ impl CountTable {
         // At each moment of the call each image has the homes that the bits name as they were.
         ensures images { IsTrue D.tells → Adds (D.past disk.old) (D.past disk.new) (EachImage (HasNamedHomes homes.now.bytes (length self.old.touched) (D.state disk.old))) }
 
+        // After a failure the same call can be tried again.
         ensures unchanged { OnErr result (self.new ≡ self.old) }
+        ensures still_kept { OnErr result (IsTrue D.tells → IsKept (blocks_in (D.state disk.old).contents) homes.now.bytes self.old
+            → IsKept (blocks_in (D.state disk.new).contents) homes.now.bytes self.new) }
         ensures unsynced { OnErr result (IsTrue D.tells → (D.state disk.new).unsynced ≢ []) }
         ensures fixed { D.fixed disk.new ≡ D.fixed disk.old }
         ensures given { D.given disk.new ≡ D.given disk.old }

@@ -1,9 +1,10 @@
 use Rattle.std.proofs.Common.{◌≡◌, ℕ, length, subst, sym, arith}
+use Rattle.std.specs.Prelude.{Result, Ok, Err, OnErr}
 use Rattle.disk_model.proofs.Moments.{adds_weaker}
 use Rattle.count_pairs.specs.Homes.{Blocks, blocks_in, counts_from}
 use Rattle.count_pairs.specs.Table.{Table, AllStand, IsKept}
 use Rattle.count_pairs.proofs.ChangeLaws.{named_kept, named_in_images}
-use Rattle.count_pairs.proofs.CountLaws.{all_stand, counts_are, stand_kept}
+use Rattle.count_pairs.proofs.CountLaws.{all_stand, counts_are, stand_kept, still_kept}
 use Rattle.count_pairs.proofs.count_table.CountTable.write_changed.Goals as goal
 
 pub returns-clause-counts : goal.returns-clause-counts
@@ -38,3 +39,12 @@ returns-clause-kept g c tells =
 pub returns-clause-images : goal.returns-clause-images
 returns-clause-images g c tells =
     adds_weaker (c.write_touched.ensures.during tells) (λ s changes. named_in_images c.args.homes.now.bytes _ (length c.args.self.now.touched) (g.D.Disk.state c.args.disk.now) s changes)
+
+on_err : {T E P : Type 0} (r : Result T E) → P → OnErr r P
+on_err (Ok x) p = tt
+on_err (Err e) p = p
+
+pub returns-in_err-new-clause-still_kept : goal.returns-in_err-new-clause-still_kept
+returns-in_err-new-clause-still_kept g c = on_err c.from_residual.result
+    (λ tells. still_kept (blocks_in (g.D.Disk.state c.args.disk.now).contents) (blocks_in (g.D.Disk.state c.write_touched.new.disk).contents) c.args.homes.now.bytes c.args.self.now
+    (λ i. named_kept c.args.homes.now.bytes c.as_slice-2.result.now i (c.write_touched.ensures.changes tells)))
