@@ -1,6 +1,8 @@
-//! Tests of the blocks of a volume: what they spell, which are free, and which are taken.
+//! Tests of the blocks of a volume: what they spell, how often each is pointed to, which are free, and which are taken.
 #![tactic(auto)]
 
+#[cfg(test)]
+mod counts;
 #[cfg(test)]
 mod formats;
 #[cfg(test)]

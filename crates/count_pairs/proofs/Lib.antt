@@ -1,0 +1,4 @@
+pub mod WordLaws
+pub mod BitLaws
+pub mod ChangeLaws
+pub mod CountLaws

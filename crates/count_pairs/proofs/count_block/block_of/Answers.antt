@@ -1,0 +1,8 @@
+use Rattle.std.proofs.Common.{◌≡◌, ◌∙◌, ◌+◌, ◌-◌, ◌*◌, ℕ, ap, take, drop, arith}
+use Rattle.count_pairs.proofs.count_block.block_of.Goals as goal
+
+pub returns : goal.returns
+returns c =
+    let at : ℕ = 1024 * c.args.i in
+    let long : at + 1024 - at ≡ 1024 = omega arith in
+    c.spelled.ensures ∙ ap (λ (n : ℕ). take n (drop at c.args.counts.now)) long

@@ -1,0 +1,6 @@
+pub mod Words
+pub mod Homes
+pub mod Table
+pub mod Writing
+pub mod Cause
+pub mod Loading
