@@ -97,19 +97,11 @@ fn steps_as(tree: &mut PlainTree, command: &Command, want: &Want) -> Result<bool
     Ok(is_wanted(&reply, *want))
 }
 
-fn steps_with(tree: &mut PlainTree, command: Command, want: &Want) -> Result<bool, Fail> {
-    steps_as(tree, &command, want)
-}
-
-fn steps_of(tree: &mut PlainTree, made: Result<Command, Fail>, want: &Want) -> Result<bool, Fail> {
-    match made {
-        Ok(command) => steps_with(tree, command, want),
-        Err(fail) => Err(fail),
-    }
-}
-
 fn goes(alloc: Global, tree: &mut PlainTree, act: Act, want: Want) -> Result<bool, Fail> {
-    steps_of(tree, command(alloc, act), &want)
+    let command = command(alloc, act)?;
+    let stepped = steps_as(tree, &command, &want);
+    drop(command);
+    stepped
 }
 
 fn goes_on(alloc: Global, tree: &mut PlainTree, rows: &[Row]) -> Result<bool, Fail> {
