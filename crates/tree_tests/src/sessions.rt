@@ -239,16 +239,17 @@ fn entries_are_in_the_order_of_their_bytes(rt: HostRuntime) -> Result<(), Fail> 
 
 // ---- a directory that goes deeper than a command's path
 
+fn makes(alloc: Global, tree: &mut PlainTree, path: &[u8]) -> Result<bool, Fail> {
+    goes(alloc, tree, Act::Mkdir(path), Want::Done)
+}
+
 // Makes rows of directories one in another, of which each path is a front of these.
 fn make_rows(alloc: Global, tree: &mut PlainTree, a: &[u8], b: &[u8]) -> Result<bool, Fail> {
     for depth in 1..21 {
         let (Some(first), Some(second)) = (a.get(..depth), b.get(..depth)) else {
             return Ok(false);
         };
-        if !goes(alloc, tree, Act::Mkdir(first), Want::Done)? {
-            return Ok(false);
-        }
-        if !goes(alloc, tree, Act::Mkdir(second), Want::Done)? {
+        if !makes(alloc, tree, first)? || !makes(alloc, tree, second)? {
             return Ok(false);
         }
     }
@@ -293,12 +294,18 @@ fn a_deep_directory_comes_back(rt: HostRuntime) -> Result<(), Fail> {
 
 // ---- limits
 
+// A name of so many bytes, at most 250.
+fn push_name(names: &mut Vec<Name>, size: usize) -> Result<(), Fail> {
+    let name = Name::new(&[b'n'; 250][..size.min(250)])?;
+    names.push(name)?;
+    Ok(())
+}
+
 // As many names, each of so many bytes.
 fn names(alloc: Global, count: usize, size: usize) -> Result<Vec<Name>, Fail> {
-    let bytes = [b'n'; 250];
     let mut names = Vec::new(alloc);
     for _ in 0..count {
-        names.push(Name::new(&bytes[..size.min(250)])?)?;
+        push_name(&mut names, size)?;
     }
     Ok(names)
 }
@@ -314,7 +321,7 @@ fn length_of(names: NameList) -> usize {
 // The same of so many names of so many bytes, and one more of so many.
 fn long_path(alloc: Global, count: usize, size: usize, last: usize) -> Result<usize, Fail> {
     let mut all = names(alloc, count, size)?;
-    all.push(Name::new(&[b'n'; 20][..last.min(20)])?)?;
+    push_name(&mut all, last)?;
     Ok(length_of(NameList::from_vec(all)))
 }
 
@@ -351,10 +358,13 @@ fn payloads_end(alloc: Global) -> Result<bool, Fail> {
     Ok(is_payload(alloc, 65_536)? && !is_payload(alloc, 65_537)?)
 }
 
+fn limits_hold(alloc: Global) -> Result<bool, Fail> {
+    let reads_end = ReadLength::new(65_536).is_ok() && ReadLength::new(65_537).is_err();
+    Ok(reads_end && Refusal::OutOfMemory.number() == 15 && payloads_end(alloc)?)
+}
+
 #[test]
 fn payloads_have_limits(rt: HostRuntime) -> Result<(), Fail> {
-    assert!(rt; payloads_end(rt.alloc())?);
-    assert!(rt; ReadLength::new(65_536).is_ok() && ReadLength::new(65_537).is_err());
-    assert!(rt; Refusal::OutOfMemory.number() == 15);
+    assert!(rt; limits_hold(rt.alloc())?);
     Ok(())
 }
