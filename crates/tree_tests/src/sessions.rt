@@ -239,23 +239,6 @@ fn entries_are_in_the_order_of_their_bytes(rt: HostRuntime) -> Result<(), Fail> 
 
 // ---- a directory that goes deeper than a command's path
 
-fn makes(alloc: Global, tree: &mut PlainTree, path: &[u8]) -> Result<bool, Fail> {
-    goes(alloc, tree, Act::Mkdir(path), Want::Done)
-}
-
-// Makes rows of directories one in another, of which each path is a front of these.
-fn make_rows(alloc: Global, tree: &mut PlainTree, a: &[u8], b: &[u8]) -> Result<bool, Fail> {
-    for depth in 1..21 {
-        let (Some(first), Some(second)) = (a.get(..depth), b.get(..depth)) else {
-            return Ok(false);
-        };
-        if !makes(alloc, tree, first)? || !makes(alloc, tree, second)? {
-            return Ok(false);
-        }
-    }
-    Ok(true)
-}
-
 // A path of 32 directories, and one of 20 with a file in the last.
 const ROW: &[u8] = b"aaaaaaaaaaaaaaaaaaaaaaaaaaaaaaaa";
 
@@ -263,8 +246,48 @@ const BELOW: &[u8] = b"aaaaaaaaaaaaaaaaaaaaa";
 
 const FILE: &[u8] = b"baaaaaaaaaaaaaaaaaaaa";
 
-// The second row goes below the first, where the file is the 41st name of its path, and comes back.
+// Two rows of 20 directories one in another. The second goes below the first, where the file is the 41st name of its path, and comes back.
 const DOWN_AND_BACK: &[Row] = &[
+    (Act::Mkdir(b"a"), Want::Done),
+    (Act::Mkdir(b"b"), Want::Done),
+    (Act::Mkdir(b"aa"), Want::Done),
+    (Act::Mkdir(b"ba"), Want::Done),
+    (Act::Mkdir(b"aaa"), Want::Done),
+    (Act::Mkdir(b"baa"), Want::Done),
+    (Act::Mkdir(b"aaaa"), Want::Done),
+    (Act::Mkdir(b"baaa"), Want::Done),
+    (Act::Mkdir(b"aaaaa"), Want::Done),
+    (Act::Mkdir(b"baaaa"), Want::Done),
+    (Act::Mkdir(b"aaaaaa"), Want::Done),
+    (Act::Mkdir(b"baaaaa"), Want::Done),
+    (Act::Mkdir(b"aaaaaaa"), Want::Done),
+    (Act::Mkdir(b"baaaaaa"), Want::Done),
+    (Act::Mkdir(b"aaaaaaaa"), Want::Done),
+    (Act::Mkdir(b"baaaaaaa"), Want::Done),
+    (Act::Mkdir(b"aaaaaaaaa"), Want::Done),
+    (Act::Mkdir(b"baaaaaaaa"), Want::Done),
+    (Act::Mkdir(b"aaaaaaaaaa"), Want::Done),
+    (Act::Mkdir(b"baaaaaaaaa"), Want::Done),
+    (Act::Mkdir(b"aaaaaaaaaaa"), Want::Done),
+    (Act::Mkdir(b"baaaaaaaaaa"), Want::Done),
+    (Act::Mkdir(b"aaaaaaaaaaaa"), Want::Done),
+    (Act::Mkdir(b"baaaaaaaaaaa"), Want::Done),
+    (Act::Mkdir(b"aaaaaaaaaaaaa"), Want::Done),
+    (Act::Mkdir(b"baaaaaaaaaaaa"), Want::Done),
+    (Act::Mkdir(b"aaaaaaaaaaaaaa"), Want::Done),
+    (Act::Mkdir(b"baaaaaaaaaaaaa"), Want::Done),
+    (Act::Mkdir(b"aaaaaaaaaaaaaaa"), Want::Done),
+    (Act::Mkdir(b"baaaaaaaaaaaaaa"), Want::Done),
+    (Act::Mkdir(b"aaaaaaaaaaaaaaaa"), Want::Done),
+    (Act::Mkdir(b"baaaaaaaaaaaaaaa"), Want::Done),
+    (Act::Mkdir(b"aaaaaaaaaaaaaaaaa"), Want::Done),
+    (Act::Mkdir(b"baaaaaaaaaaaaaaaa"), Want::Done),
+    (Act::Mkdir(b"aaaaaaaaaaaaaaaaaa"), Want::Done),
+    (Act::Mkdir(b"baaaaaaaaaaaaaaaaa"), Want::Done),
+    (Act::Mkdir(b"aaaaaaaaaaaaaaaaaaa"), Want::Done),
+    (Act::Mkdir(b"baaaaaaaaaaaaaaaaaa"), Want::Done),
+    (Act::Mkdir(b"aaaaaaaaaaaaaaaaaaaa"), Want::Done),
+    (Act::Mkdir(b"baaaaaaaaaaaaaaaaaaa"), Want::Done),
     (Act::Create(FILE), Want::Done),
     (Act::Write(FILE, 0, b"deep"), Want::Done),
     (Act::Rename(b"b", BELOW), Want::Done),
@@ -274,21 +297,9 @@ const DOWN_AND_BACK: &[Row] = &[
     (Act::Read(FILE, 0, 10), Want::Bytes(b"deep")),
 ];
 
-fn goes_down_and_back(alloc: Global, tree: &mut PlainTree) -> Result<bool, Fail> {
-    if !make_rows(alloc, tree, ROW, FILE)? {
-        return Ok(false);
-    }
-    goes_on(alloc, tree, DOWN_AND_BACK)
-}
-
-fn deep(alloc: Global) -> Result<bool, Fail> {
-    let mut tree = PlainTree::new(alloc)?;
-    goes_down_and_back(alloc, &mut tree)
-}
-
 #[test]
 fn a_deep_directory_comes_back(rt: HostRuntime) -> Result<(), Fail> {
-    assert!(rt; deep(rt.alloc())?);
+    assert!(rt; session(rt.alloc(), DOWN_AND_BACK)?);
     Ok(())
 }
 
