@@ -7,62 +7,27 @@ use std::alloc::Global;
 use std::test::Fail;
 use vol_numbers::Block;
 
-// ---- damaged records
+// ---- logs of one record
 
 const BAD: Outcome = Outcome::Fault(LogFault::BadRecord(0));
 
 const GOOD: Outcome = Outcome::Records(1);
 
-/// What is read of a log of one record, whose first block this is and whose later ones are zeros.
-fn outcome_of_block(
-    alloc: Global,
-    disk: &mut MemDisk,
-    block: &Block,
-    used: u32,
-) -> Result<Outcome, Fail> {
-    put_block(disk, 5, block)?;
-    outcome_with(alloc, disk, 1, used)
+/// The first block of a log of one record, whose later ones are zeros.
+#[derive(Clone, Copy)]
+enum First<'a> {
+    /// It begins with these bytes, but one of them has this value.
+    Changed(&'a [u8], usize, u8),
+    /// A write, with these for the low byte of its data's length and the third one.
+    Data(u8, u8),
+    /// It makes a file at a path of these bytes.
+    At(&'a [u8]),
+    /// The same at a path of so many names of so many letters, and a last one.
+    Long(usize, usize, usize),
 }
 
-/// A byte of a record and another value for it. First kinds that want data or a second path, and no kinds; each zero field; the lengths; the path;
-/// behind the end. Then other kinds without data, and other names. Then the write.
-const DAMAGED: &[(&[u8], usize, u8, Outcome)] = &[
-    (CREATE, 0, 0, BAD),
-    (CREATE, 0, 3, BAD),
-    (CREATE, 0, 6, BAD),
-    (CREATE, 0, 7, BAD),
-    (CREATE, 1, 1, BAD),
-    (CREATE, 2, 1, BAD),
-    (CREATE, 3, 0x80, BAD),
-    (CREATE, 4, 0, BAD),
-    (CREATE, 4, 1, BAD),
-    (CREATE, 4, 3, BAD),
-    (CREATE, 5, 1, BAD),
-    (CREATE, 7, 0x80, BAD),
-    (CREATE, 8, 1, BAD),
-    (CREATE, 15, 0x80, BAD),
-    (CREATE, 16, 1, BAD),
-    (CREATE, 19, 0x80, BAD),
-    (CREATE, 20, 1, BAD),
-    (CREATE, 23, 0x80, BAD),
-    (CREATE, 24, 0x61, BAD),
-    (CREATE, 25, 0, BAD),
-    (CREATE, 25, 0x2e, BAD),
-    (CREATE, 25, 0x2f, BAD),
-    (CREATE, 26, 1, BAD),
-    (CREATE, 4_095, 0x80, BAD),
-    (CREATE, 0, 1, GOOD),
-    (CREATE, 0, 2, GOOD),
-    (CREATE, 0, 4, GOOD),
-    (CREATE, 0, 5, GOOD),
-    (CREATE, 25, 0xff, GOOD),
-    (WRITE, 0, 2, BAD),
-    (WRITE, 16, 0, BAD),
-    (WRITE, 16, 2, BAD),
-    (WRITE, 20, 1, BAD),
-    (WRITE, 29, 1, BAD),
-    (WRITE, 4_095, 1, BAD),
-];
+/// A first block, how many blocks are used, and what comes of reading.
+type Row = (First<'static>, u32, Outcome);
 
 /// A block that begins with these bytes, of which one is another.
 fn block_but(bytes: &[u8], at: usize, byte: u8) -> Block {
@@ -73,71 +38,12 @@ fn block_but(bytes: &[u8], at: usize, byte: u8) -> Block {
     block
 }
 
-fn finds_damage(
-    alloc: Global,
-    disk: &mut MemDisk,
-    rows: &[(&[u8], usize, u8, Outcome)],
-) -> Result<bool, Fail> {
-    for (bytes, at, byte, want) in rows {
-        if outcome_of_block(alloc, disk, &block_but(bytes, *at, *byte), 1)? != *want {
-            return Ok(false);
-        }
-    }
-    Ok(true)
-}
-
-fn refuses_damage(alloc: Global) -> Result<bool, Fail> {
-    let mut disk = MemDisk::new(alloc, 165)?;
-    finds_damage(alloc, &mut disk, DAMAGED)
-}
-
-#[test]
-fn damaged_records_are_refused(rt: HostRuntime) -> Result<(), Fail> {
-    assert!(rt; refuses_damage(rt.alloc())?);
-    Ok(())
-}
-
-/// Bytes 16 and 18, the low one and the third of the data's length, and the used blocks. The data are zeros, as is all behind the record.
-const LENGTHS: &[(u8, u8, u32, Outcome)] = &[
-    (0, 0, 1, BAD),
-    (1, 0, 1, GOOD),
-    (0, 1, 17, GOOD),
-    (0, 1, 16, BAD),
-    (1, 1, 17, BAD),
-];
-
 fn write_of_length(low: u8, high: u8) -> Block {
     let mut block = block_of(WRITE_HEAD, 0);
     block.bytes[16] = low;
     block.bytes[18] = high;
     block
 }
-
-fn keeps_lengths(
-    alloc: Global,
-    disk: &mut MemDisk,
-    rows: &[(u8, u8, u32, Outcome)],
-) -> Result<bool, Fail> {
-    for (low, high, used, want) in rows {
-        if outcome_of_block(alloc, disk, &write_of_length(*low, *high), *used)? != *want {
-            return Ok(false);
-        }
-    }
-    Ok(true)
-}
-
-fn data_ends(alloc: Global) -> Result<bool, Fail> {
-    let mut disk = MemDisk::new(alloc, 165)?;
-    keeps_lengths(alloc, &mut disk, LENGTHS)
-}
-
-#[test]
-fn data_has_1_to_65_536_bytes(rt: HostRuntime) -> Result<(), Fail> {
-    assert!(rt; data_ends(rt.alloc())?);
-    Ok(())
-}
-
-// ---- paths
 
 /// A record that makes a file at a path of these bytes.
 fn create_at(path: &[u8]) -> Block {
@@ -151,29 +57,6 @@ fn create_at(path: &[u8]) -> Block {
     }
     block
 }
-
-const NO_PATHS: &[&[u8]] = &[
-    b"", b"a", b"/", b"//a", b"/a/", b"/a//b", b"/.", b"/..", b"/a/../b", b"/a\0",
-];
-
-fn refuses_paths(alloc: Global, disk: &mut MemDisk, paths: &[&[u8]]) -> Result<bool, Fail> {
-    for path in paths {
-        if outcome_of_block(alloc, disk, &create_at(path), 1)? != BAD {
-            return Ok(false);
-        }
-    }
-    Ok(true)
-}
-
-/// So many names of so many letters, and a last one: names of 250 and 251 bytes, 32 and 33 names, 1,024 and 1,025 bytes.
-const LONG_PATHS: &[(usize, usize, usize, Outcome)] = &[
-    (0, 0, 250, GOOD),
-    (0, 0, 251, BAD),
-    (31, 1, 1, GOOD),
-    (32, 1, 1, BAD),
-    (4, 250, 19, GOOD),
-    (4, 250, 20, BAD),
-];
 
 fn push_name(path: &mut Vec<u8>, letters: usize) -> Result<(), Fail> {
     path.push(b'/')?;
@@ -190,43 +73,129 @@ fn long_path(alloc: Global, names: usize, letters: usize, last: usize) -> Result
     Ok(path)
 }
 
-fn outcome_of_long(
-    alloc: Global,
-    disk: &mut MemDisk,
-    (names, letters, last): (usize, usize, usize),
-) -> Result<Outcome, Fail> {
+fn create_long(alloc: Global, names: usize, letters: usize, last: usize) -> Result<Block, Fail> {
     let path = long_path(alloc, names, letters, last)?;
-    outcome_of_block(alloc, disk, &create_at(&path), 1)
+    Ok(create_at(&path))
 }
 
-fn keeps_limits(
+fn first_block(alloc: Global, first: First) -> Result<Block, Fail> {
+    match first {
+        First::Changed(bytes, at, byte) => Ok(block_but(bytes, at, byte)),
+        First::Data(low, high) => Ok(write_of_length(low, high)),
+        First::At(path) => Ok(create_at(path)),
+        First::Long(names, letters, last) => create_long(alloc, names, letters, last),
+    }
+}
+
+fn outcome_of_first(
     alloc: Global,
     disk: &mut MemDisk,
-    rows: &[(usize, usize, usize, Outcome)],
-) -> Result<bool, Fail> {
-    for (names, letters, last, want) in rows {
-        if outcome_of_long(alloc, disk, (*names, *letters, *last))? != *want {
+    first: First,
+    used: u32,
+) -> Result<Outcome, Fail> {
+    let block = first_block(alloc, first)?;
+    put_block(disk, 5, &block)?;
+    outcome_with(alloc, disk, 1, used)
+}
+
+fn reads_on(alloc: Global, disk: &mut MemDisk, rows: &[Row]) -> Result<bool, Fail> {
+    for (first, used, want) in rows {
+        if outcome_of_first(alloc, disk, *first, *used)? != *want {
             return Ok(false);
         }
     }
     Ok(true)
 }
 
-fn paths_are_right(alloc: Global, disk: &mut MemDisk) -> Result<bool, Fail> {
-    if !refuses_paths(alloc, disk, NO_PATHS)? {
-        return Ok(false);
-    }
-    keeps_limits(alloc, disk, LONG_PATHS)
+fn reads(alloc: Global, rows: &[Row]) -> Result<bool, Fail> {
+    let mut disk = MemDisk::new(alloc, 165)?;
+    reads_on(alloc, &mut disk, rows)
 }
 
-fn paths_end(alloc: Global) -> Result<bool, Fail> {
-    let mut disk = MemDisk::new(alloc, 165)?;
-    paths_are_right(alloc, &mut disk)
+/// A byte of a record and another value for it. First kinds that want data or a second path, and no kinds; each zero field; the lengths; the path;
+/// behind the end. Then other kinds without data, and other names. Then the write.
+const DAMAGED: &[Row] = &[
+    (First::Changed(CREATE, 0, 0), 1, BAD),
+    (First::Changed(CREATE, 0, 3), 1, BAD),
+    (First::Changed(CREATE, 0, 6), 1, BAD),
+    (First::Changed(CREATE, 0, 7), 1, BAD),
+    (First::Changed(CREATE, 1, 1), 1, BAD),
+    (First::Changed(CREATE, 2, 1), 1, BAD),
+    (First::Changed(CREATE, 3, 0x80), 1, BAD),
+    (First::Changed(CREATE, 4, 0), 1, BAD),
+    (First::Changed(CREATE, 4, 1), 1, BAD),
+    (First::Changed(CREATE, 4, 3), 1, BAD),
+    (First::Changed(CREATE, 5, 1), 1, BAD),
+    (First::Changed(CREATE, 7, 0x80), 1, BAD),
+    (First::Changed(CREATE, 8, 1), 1, BAD),
+    (First::Changed(CREATE, 15, 0x80), 1, BAD),
+    (First::Changed(CREATE, 16, 1), 1, BAD),
+    (First::Changed(CREATE, 19, 0x80), 1, BAD),
+    (First::Changed(CREATE, 20, 1), 1, BAD),
+    (First::Changed(CREATE, 23, 0x80), 1, BAD),
+    (First::Changed(CREATE, 24, 0x61), 1, BAD),
+    (First::Changed(CREATE, 25, 0), 1, BAD),
+    (First::Changed(CREATE, 25, 0x2e), 1, BAD),
+    (First::Changed(CREATE, 25, 0x2f), 1, BAD),
+    (First::Changed(CREATE, 26, 1), 1, BAD),
+    (First::Changed(CREATE, 4_095, 0x80), 1, BAD),
+    (First::Changed(CREATE, 0, 1), 1, GOOD),
+    (First::Changed(CREATE, 0, 2), 1, GOOD),
+    (First::Changed(CREATE, 0, 4), 1, GOOD),
+    (First::Changed(CREATE, 0, 5), 1, GOOD),
+    (First::Changed(CREATE, 25, 0xff), 1, GOOD),
+    (First::Changed(WRITE, 0, 2), 1, BAD),
+    (First::Changed(WRITE, 16, 0), 1, BAD),
+    (First::Changed(WRITE, 16, 2), 1, BAD),
+    (First::Changed(WRITE, 20, 1), 1, BAD),
+    (First::Changed(WRITE, 29, 1), 1, BAD),
+    (First::Changed(WRITE, 4_095, 1), 1, BAD),
+];
+
+#[test]
+fn damaged_records_are_refused(rt: HostRuntime) -> Result<(), Fail> {
+    assert!(rt; reads(rt.alloc(), DAMAGED)?);
+    Ok(())
 }
+
+/// The data are zeros, as is all behind the record.
+const LENGTHS: &[Row] = &[
+    (First::Data(0, 0), 1, BAD),
+    (First::Data(1, 0), 1, GOOD),
+    (First::Data(0, 1), 17, GOOD),
+    (First::Data(0, 1), 16, BAD),
+    (First::Data(1, 1), 17, BAD),
+];
+
+#[test]
+fn data_has_1_to_65_536_bytes(rt: HostRuntime) -> Result<(), Fail> {
+    assert!(rt; reads(rt.alloc(), LENGTHS)?);
+    Ok(())
+}
+
+/// No paths; names of 250 and 251 bytes, 32 and 33 names, 1,024 and 1,025 bytes.
+const PATHS: &[Row] = &[
+    (First::At(b""), 1, BAD),
+    (First::At(b"a"), 1, BAD),
+    (First::At(b"/"), 1, BAD),
+    (First::At(b"//a"), 1, BAD),
+    (First::At(b"/a/"), 1, BAD),
+    (First::At(b"/a//b"), 1, BAD),
+    (First::At(b"/."), 1, BAD),
+    (First::At(b"/.."), 1, BAD),
+    (First::At(b"/a/../b"), 1, BAD),
+    (First::At(b"/a\0"), 1, BAD),
+    (First::Long(0, 0, 250), 1, GOOD),
+    (First::Long(0, 0, 251), 1, BAD),
+    (First::Long(31, 1, 1), 1, GOOD),
+    (First::Long(32, 1, 1), 1, BAD),
+    (First::Long(4, 250, 19), 1, GOOD),
+    (First::Long(4, 250, 20), 1, BAD),
+];
 
 #[test]
 fn paths_keep_their_limits(rt: HostRuntime) -> Result<(), Fail> {
-    assert!(rt; paths_end(rt.alloc())?);
+    assert!(rt; reads(rt.alloc(), PATHS)?);
     Ok(())
 }
 
@@ -240,7 +209,9 @@ fn damage(disk: &mut MemDisk, at: u32) -> Result<(), Fail> {
 }
 
 fn tells_bad(alloc: Global, disk: &mut MemDisk, number: u32) -> Result<bool, Fail> {
-    put_acts(alloc, disk, ACTS)?;
+    if put_acts(alloc, disk, ACTS)? != Some(USED) {
+        return Ok(false);
+    }
     damage(disk, number.saturating_add(5))?;
     Ok(outcome_with(alloc, disk, 7, USED)? == Outcome::Fault(LogFault::BadRecord(number)))
 }

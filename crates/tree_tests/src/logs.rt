@@ -71,34 +71,27 @@ pub(crate) fn outcome_with(
     Ok(outcome_of(read(alloc, disk, &body)))
 }
 
-/// Why a record was not written.
-#[derive(Clone, Copy, Debug, PartialEq, Eq)]
-pub(crate) enum PutFault {
-    Device,
-    NoRoom,
-}
-
-/// Writes a record, where it is logged and the log has room, and answers how many blocks it takes.
-pub(crate) fn put(disk: &mut MemDisk, at: u32, command: &Command) -> Result<u32, PutFault> {
+/// Writes a record, where it is logged, the log has room and the disk does not fail, and answers how many blocks it takes.
+fn put(disk: &mut MemDisk, at: u32, command: &Command) -> Option<u32> {
     let Ok(g) = Geometry::new(165, 64) else {
-        return Err(PutFault::NoRoom);
+        return None;
     };
     if !is_logged(command) || disk.blocks() != 165 || at > 64 {
-        return Err(PutFault::NoRoom);
+        return None;
     }
     if at + record_blocks(command) > 64 {
-        return Err(PutFault::NoRoom);
+        return None;
     }
-    append(disk, &g, at, command).map_err(|_| PutFault::Device)
+    append(disk, &g, at, command).ok()
 }
 
 /// Writes the commands behind one another, and answers how many blocks they took.
-pub(crate) fn put_all(disk: &mut MemDisk, commands: &[Command]) -> Result<u32, PutFault> {
+pub(crate) fn put_all(disk: &mut MemDisk, commands: &[Command]) -> Option<u32> {
     let mut at: u32 = 0;
     for command in commands {
         at = at.saturating_add(put(disk, at, command)?);
     }
-    Ok(at)
+    Some(at)
 }
 
 pub(crate) fn commands(alloc: Global, acts: &[Act]) -> Result<Vec<Command>, Fail> {
@@ -110,9 +103,13 @@ pub(crate) fn commands(alloc: Global, acts: &[Act]) -> Result<Vec<Command>, Fail
 }
 
 /// The same of acts.
-pub(crate) fn put_acts(alloc: Global, disk: &mut MemDisk, acts: &[Act]) -> Result<u32, Fail> {
+pub(crate) fn put_acts(
+    alloc: Global,
+    disk: &mut MemDisk,
+    acts: &[Act],
+) -> Result<Option<u32>, Fail> {
     let commands = commands(alloc, acts)?;
-    Ok(put_all(disk, &commands)?)
+    Ok(put_all(disk, &commands))
 }
 
 pub(crate) fn block_at(disk: &mut MemDisk, at: u32) -> Result<Block, Fail> {

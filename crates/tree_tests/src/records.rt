@@ -76,24 +76,6 @@ fn are_blocks(disk: &mut MemDisk, rows: &[(u32, &[u8], u8)]) -> Result<bool, Fai
     Ok(true)
 }
 
-fn writes_on(alloc: Global, disk: &mut MemDisk) -> Result<bool, Fail> {
-    if put_acts(alloc, disk, ACTS)? != USED {
-        return Ok(false);
-    }
-    are_blocks(disk, BLOCKS)
-}
-
-fn writes_blocks(alloc: Global) -> Result<bool, Fail> {
-    let mut disk = MemDisk::new(alloc, 165)?;
-    writes_on(alloc, &mut disk)
-}
-
-#[test]
-fn records_have_the_bytes_of_the_format(rt: HostRuntime) -> Result<(), Fail> {
-    assert!(rt; writes_blocks(rt.alloc())?);
-    Ok(())
-}
-
 // ---- how many blocks a record takes
 
 /// A record of a block, of 4,096 bytes, of one more, and of the greatest data; and commands that have no record, since they speak of the root.
@@ -106,11 +88,11 @@ const COUNTS: &[(Act<'static>, u32)] = &[
     (Act::Rename(b"", b""), 1),
 ];
 
-fn count_made(made: Result<Command, Fail>) -> Result<u32, Fail> {
-    match made {
-        Ok(command) => Ok(count_of(&command)),
-        Err(fail) => Err(fail),
-    }
+fn count_made(alloc: Global, act: Act) -> Result<u32, Fail> {
+    let command = command(alloc, act)?;
+    let count = count_of(&command);
+    drop(command);
+    Ok(count)
 }
 
 /// How many blocks, and 0 for a command that changes nothing.
@@ -124,7 +106,7 @@ fn count_of(command: &Command) -> u32 {
 
 fn counts_all(alloc: Global, rows: &[(Act, u32)]) -> Result<bool, Fail> {
     for (act, want) in rows {
-        if count_made(command(alloc, *act))? != *want {
+        if count_made(alloc, *act)? != *want {
             return Ok(false);
         }
     }
@@ -151,7 +133,7 @@ fn same_blocks(disk: &mut MemDisk, other: &mut MemDisk) -> Result<bool, Fail> {
 /// Whether the commands have the records that stand on the disk.
 fn has_copies(alloc: Global, disk: &mut MemDisk, commands: &[Command]) -> Result<bool, Fail> {
     let mut copy = MemDisk::new(alloc, 165)?;
-    if put_all(&mut copy, commands)? != USED {
+    if put_all(&mut copy, commands) != Some(USED) {
         return Ok(false);
     }
     same_blocks(disk, &mut copy)
@@ -187,8 +169,8 @@ fn reads_roots(
     Ok(true)
 }
 
-fn reads_on(alloc: Global, disk: &mut MemDisk) -> Result<bool, Fail> {
-    if put_acts(alloc, disk, ACTS)? != USED {
+fn goes_there_and_back(alloc: Global, disk: &mut MemDisk) -> Result<bool, Fail> {
+    if put_acts(alloc, disk, ACTS)? != Some(USED) || !are_blocks(disk, BLOCKS)? {
         return Ok(false);
     }
     if !reads_copies(alloc, disk)? {
@@ -197,14 +179,14 @@ fn reads_on(alloc: Global, disk: &mut MemDisk) -> Result<bool, Fail> {
     reads_roots(alloc, disk, ROOTS)
 }
 
-fn reads_back(alloc: Global) -> Result<bool, Fail> {
+fn goes_round(alloc: Global) -> Result<bool, Fail> {
     let mut disk = MemDisk::new(alloc, 165)?;
-    reads_on(alloc, &mut disk)
+    goes_there_and_back(alloc, &mut disk)
 }
 
 #[test]
-fn records_read_back(rt: HostRuntime) -> Result<(), Fail> {
-    assert!(rt; reads_back(rt.alloc())?);
+fn records_have_the_bytes_of_the_format_and_read_back(rt: HostRuntime) -> Result<(), Fail> {
+    assert!(rt; goes_round(rt.alloc())?);
     Ok(())
 }
 
@@ -212,7 +194,7 @@ fn records_read_back(rt: HostRuntime) -> Result<(), Fail> {
 
 fn put_failing(alloc: Global, disk: &mut MemDisk, call: u64, commands: &[Command]) -> bool {
     disk.plan(CallList::new(alloc), Some(call), 0xff);
-    put_all(disk, commands).is_ok()
+    put_all(disk, commands).is_some()
 }
 
 /// 23 blocks are written by 23 calls.

@@ -97,19 +97,11 @@ fn steps_as(tree: &mut PlainTree, command: &Command, want: &Want) -> Result<bool
     Ok(is_wanted(&reply, *want))
 }
 
-fn steps_with(tree: &mut PlainTree, command: Command, want: &Want) -> Result<bool, Fail> {
-    steps_as(tree, &command, want)
-}
-
-fn steps_of(tree: &mut PlainTree, made: Result<Command, Fail>, want: &Want) -> Result<bool, Fail> {
-    match made {
-        Ok(command) => steps_with(tree, command, want),
-        Err(fail) => Err(fail),
-    }
-}
-
 fn goes(alloc: Global, tree: &mut PlainTree, act: Act, want: Want) -> Result<bool, Fail> {
-    steps_of(tree, command(alloc, act), &want)
+    let command = command(alloc, act)?;
+    let stepped = steps_as(tree, &command, &want);
+    drop(command);
+    stepped
 }
 
 fn goes_on(alloc: Global, tree: &mut PlainTree, rows: &[Row]) -> Result<bool, Fail> {
@@ -247,22 +239,6 @@ fn entries_are_in_the_order_of_their_bytes(rt: HostRuntime) -> Result<(), Fail> 
 
 // ---- a directory that goes deeper than a command's path
 
-// Makes rows of directories one in another, of which each path is a front of these.
-fn make_rows(alloc: Global, tree: &mut PlainTree, a: &[u8], b: &[u8]) -> Result<bool, Fail> {
-    for depth in 1..21 {
-        let (Some(first), Some(second)) = (a.get(..depth), b.get(..depth)) else {
-            return Ok(false);
-        };
-        if !goes(alloc, tree, Act::Mkdir(first), Want::Done)? {
-            return Ok(false);
-        }
-        if !goes(alloc, tree, Act::Mkdir(second), Want::Done)? {
-            return Ok(false);
-        }
-    }
-    Ok(true)
-}
-
 // A path of 32 directories, and one of 20 with a file in the last.
 const ROW: &[u8] = b"aaaaaaaaaaaaaaaaaaaaaaaaaaaaaaaa";
 
@@ -270,8 +246,48 @@ const BELOW: &[u8] = b"aaaaaaaaaaaaaaaaaaaaa";
 
 const FILE: &[u8] = b"baaaaaaaaaaaaaaaaaaaa";
 
-// The second row goes below the first, where the file is the 41st name of its path, and comes back.
+// Two rows of 20 directories one in another. The second goes below the first, where the file is the 41st name of its path, and comes back.
 const DOWN_AND_BACK: &[Row] = &[
+    (Act::Mkdir(b"a"), Want::Done),
+    (Act::Mkdir(b"b"), Want::Done),
+    (Act::Mkdir(b"aa"), Want::Done),
+    (Act::Mkdir(b"ba"), Want::Done),
+    (Act::Mkdir(b"aaa"), Want::Done),
+    (Act::Mkdir(b"baa"), Want::Done),
+    (Act::Mkdir(b"aaaa"), Want::Done),
+    (Act::Mkdir(b"baaa"), Want::Done),
+    (Act::Mkdir(b"aaaaa"), Want::Done),
+    (Act::Mkdir(b"baaaa"), Want::Done),
+    (Act::Mkdir(b"aaaaaa"), Want::Done),
+    (Act::Mkdir(b"baaaaa"), Want::Done),
+    (Act::Mkdir(b"aaaaaaa"), Want::Done),
+    (Act::Mkdir(b"baaaaaa"), Want::Done),
+    (Act::Mkdir(b"aaaaaaaa"), Want::Done),
+    (Act::Mkdir(b"baaaaaaa"), Want::Done),
+    (Act::Mkdir(b"aaaaaaaaa"), Want::Done),
+    (Act::Mkdir(b"baaaaaaaa"), Want::Done),
+    (Act::Mkdir(b"aaaaaaaaaa"), Want::Done),
+    (Act::Mkdir(b"baaaaaaaaa"), Want::Done),
+    (Act::Mkdir(b"aaaaaaaaaaa"), Want::Done),
+    (Act::Mkdir(b"baaaaaaaaaa"), Want::Done),
+    (Act::Mkdir(b"aaaaaaaaaaaa"), Want::Done),
+    (Act::Mkdir(b"baaaaaaaaaaa"), Want::Done),
+    (Act::Mkdir(b"aaaaaaaaaaaaa"), Want::Done),
+    (Act::Mkdir(b"baaaaaaaaaaaa"), Want::Done),
+    (Act::Mkdir(b"aaaaaaaaaaaaaa"), Want::Done),
+    (Act::Mkdir(b"baaaaaaaaaaaaa"), Want::Done),
+    (Act::Mkdir(b"aaaaaaaaaaaaaaa"), Want::Done),
+    (Act::Mkdir(b"baaaaaaaaaaaaaa"), Want::Done),
+    (Act::Mkdir(b"aaaaaaaaaaaaaaaa"), Want::Done),
+    (Act::Mkdir(b"baaaaaaaaaaaaaaa"), Want::Done),
+    (Act::Mkdir(b"aaaaaaaaaaaaaaaaa"), Want::Done),
+    (Act::Mkdir(b"baaaaaaaaaaaaaaaa"), Want::Done),
+    (Act::Mkdir(b"aaaaaaaaaaaaaaaaaa"), Want::Done),
+    (Act::Mkdir(b"baaaaaaaaaaaaaaaaa"), Want::Done),
+    (Act::Mkdir(b"aaaaaaaaaaaaaaaaaaa"), Want::Done),
+    (Act::Mkdir(b"baaaaaaaaaaaaaaaaaa"), Want::Done),
+    (Act::Mkdir(b"aaaaaaaaaaaaaaaaaaaa"), Want::Done),
+    (Act::Mkdir(b"baaaaaaaaaaaaaaaaaaa"), Want::Done),
     (Act::Create(FILE), Want::Done),
     (Act::Write(FILE, 0, b"deep"), Want::Done),
     (Act::Rename(b"b", BELOW), Want::Done),
@@ -281,32 +297,26 @@ const DOWN_AND_BACK: &[Row] = &[
     (Act::Read(FILE, 0, 10), Want::Bytes(b"deep")),
 ];
 
-fn goes_down_and_back(alloc: Global, tree: &mut PlainTree) -> Result<bool, Fail> {
-    if !make_rows(alloc, tree, ROW, FILE)? {
-        return Ok(false);
-    }
-    goes_on(alloc, tree, DOWN_AND_BACK)
-}
-
-fn deep(alloc: Global) -> Result<bool, Fail> {
-    let mut tree = PlainTree::new(alloc)?;
-    goes_down_and_back(alloc, &mut tree)
-}
-
 #[test]
 fn a_deep_directory_comes_back(rt: HostRuntime) -> Result<(), Fail> {
-    assert!(rt; deep(rt.alloc())?);
+    assert!(rt; session(rt.alloc(), DOWN_AND_BACK)?);
     Ok(())
 }
 
 // ---- limits
 
+// A name of so many bytes, at most 250.
+fn push_name(names: &mut Vec<Name>, size: usize) -> Result<(), Fail> {
+    let name = Name::new(&[b'n'; 250][..size.min(250)])?;
+    names.push(name)?;
+    Ok(())
+}
+
 // As many names, each of so many bytes.
 fn names(alloc: Global, count: usize, size: usize) -> Result<Vec<Name>, Fail> {
-    let bytes = [b'n'; 250];
     let mut names = Vec::new(alloc);
     for _ in 0..count {
-        names.push(Name::new(&bytes[..size.min(250)])?)?;
+        push_name(&mut names, size)?;
     }
     Ok(names)
 }
@@ -322,7 +332,7 @@ fn length_of(names: NameList) -> usize {
 // The same of so many names of so many bytes, and one more of so many.
 fn long_path(alloc: Global, count: usize, size: usize, last: usize) -> Result<usize, Fail> {
     let mut all = names(alloc, count, size)?;
-    all.push(Name::new(&[b'n'; 20][..last.min(20)])?)?;
+    push_name(&mut all, last)?;
     Ok(length_of(NameList::from_vec(all)))
 }
 
@@ -359,10 +369,13 @@ fn payloads_end(alloc: Global) -> Result<bool, Fail> {
     Ok(is_payload(alloc, 65_536)? && !is_payload(alloc, 65_537)?)
 }
 
+fn limits_hold(alloc: Global) -> Result<bool, Fail> {
+    let reads_end = ReadLength::new(65_536).is_ok() && ReadLength::new(65_537).is_err();
+    Ok(reads_end && Refusal::OutOfMemory.number() == 15 && payloads_end(alloc)?)
+}
+
 #[test]
 fn payloads_have_limits(rt: HostRuntime) -> Result<(), Fail> {
-    assert!(rt; payloads_end(rt.alloc())?);
-    assert!(rt; ReadLength::new(65_536).is_ok() && ReadLength::new(65_537).is_err());
-    assert!(rt; Refusal::OutOfMemory.number() == 15);
+    assert!(rt; limits_hold(rt.alloc())?);
     Ok(())
 }
