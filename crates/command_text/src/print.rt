@@ -1,5 +1,5 @@
 //! The one spelling of a command.
-ghost use Rattle.std.specs.Prelude.{◌≡◌, ◌++◌, codes, length, IfOk, OnOk, All};
+ghost use Rattle.std.specs.Prelude.{◌≡◌, ◌≤◌, ◌++◌, codes, length, IfOk, OnOk, All};
 ghost use Rattle.std.specs.String.{string_bytes};
 ghost use Rattle.reply_text.specs.Putting.{PutsText, PutsAnswer, HasPutCause};
 ghost use Rattle.command_text.specs.ReadBack.{IsCommandPath, IsCommand, ReadsBack};
@@ -9,11 +9,11 @@ ghost use Rattle.command_text.specs.Spelling.{name_spelling, path_spelling, spel
 ghost use Rattle.vol_numbers.specs.Cause.{HasCause};
 
 use itoa::Buffer;
-use reply_text::{PutFault, TEXT_ROOM, push_escaped, put_with_data};
+use reply_text::{PutFault, push_escaped, put_written};
 use std::alloc::{AllocError, Global};
-use tree_model::{Command, Path, Payload};
+use tree_model::{Command, Path, Payload, ReadLength};
 use vol_numbers::Name;
-use wire_ends::{PutBuffer, Sink, SinkFault};
+use wire_ends::{Sink, SinkFault};
 
 /// Appends a name with a slash before it.
 fn push_name(text: &mut String, name: &Name) -> Result<(), AllocError>
@@ -78,6 +78,19 @@ fn push_part(
     push_number(text, count)
 }
 
+fn push_read(
+    text: &mut String,
+    path: &Path,
+    offset: u64,
+    count: ReadLength,
+) -> Result<(), AllocError>
+    ensures path { OnOk result (IsCommandPath path.now) }
+    ensures text { OnOk result (string_bytes text.new ≡ string_bytes text.old ++ (codes "read " ++ path_spelling path.now ++ number_spelling offset ++ number_spelling count)) }
+    ensures at_most { count ≤ 65536 }
+{
+    push_part(text, "read ", path, offset, count.get() as u64)
+}
+
 /// Appends a write of so many bytes, without them.
 fn push_write(
     text: &mut String,
@@ -87,6 +100,7 @@ fn push_write(
 ) -> Result<(), AllocError>
     ensures path { OnOk result (IsCommandPath path.now) }
     ensures text { OnOk result (string_bytes text.new ≡ string_bytes text.old ++ (codes "write " ++ path_spelling path.now ++ number_spelling offset ++ number_spelling (length bytes.now))) }
+    ensures at_most { length bytes.now ≤ 65536 }
 {
     let count = bytes.as_slice().len();
     push_part(text, "write ", path, offset, count as u64)
@@ -121,7 +135,7 @@ fn push_line(text: &mut String, command: &Command) -> Result<(), AllocError>
             path,
             offset,
             length,
-        } => push_part(text, "read ", path, *offset, length.get() as u64),
+        } => push_read(text, path, *offset, *length),
         Command::List { path } => push_on_path(text, "list ", path),
         Command::Stat { path } => push_on_path(text, "stat ", path),
         Command::Layout { path } => push_on_path(text, "layout ", path),
@@ -140,18 +154,6 @@ fn line_of(alloc: Global, command: &Command) -> Result<String, AllocError>
     push_line(&mut line, command)?;
     line.push_str("\n")?;
     Ok(line)
-}
-
-/// Puts a line, and behind it bytes and a newline.
-fn put_written<W: Sink>(sink: &mut W, line: &str, bytes: &[u8]) -> Result<(), SinkFault>
-    ensures text { PutsText (W.seen sink.old) (W.seen sink.new) (line.now ++ (bytes.now ++ codes "\n")) result }
-    ensures cause { HasCause (W.seen sink.old).faults (W.seen sink.new).faults result }
-{
-    let mut buffer = PutBuffer::<TEXT_ROOM>::new();
-    match put_with_data(&mut buffer, sink, line.as_bytes(), bytes) {
-        Ok(()) => buffer.flush(sink),
-        Err(SinkFault) => Err(SinkFault),
-    }
 }
 
 /// Puts the line of a command, which is given, and what follows it.

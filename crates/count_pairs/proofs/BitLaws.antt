@@ -5,7 +5,7 @@ use Rattle.std.specs.Int.{bit_at}
 use Rattle.std.proofs.lemmas.Nat.Bits.{bit_at_xor, bit_at-pow_same, bit_at-pow_other, bit_at-lt}
 use Rattle.std.proofs.lemmas.Bool.{cases_eq}
 use Rattle.std.proofs.lemmas.List.{get_or-set_same, get_or-set_other}
-use Rattle.root_switch.specs.Homes.{home_bit}
+use Rattle.block_format.specs.Homes.{home_bit}
 
 small_power : (k : ℕ) → k < 8 → 1 * 2 ^ k % 256 ≡ 2 ^ k
 small_power zero lt = refl

@@ -2,7 +2,7 @@
 use Rattle.std.specs.Prelude.{◌+◌, ◌*◌, ◌-◌, ℕ, zero, suc, List, [], ◌++◌, get_or}
 use Rattle.vol_numbers.specs.Block.{zero_block}
 use Rattle.vol_numbers.specs.declared.block.Block.{Block}
-use Rattle.root_switch.specs.Homes.{home_bit}
+use Rattle.block_format.specs.Homes.{home_bit}
 use Rattle.count_pairs.specs.Words.{words}
 
 -- the bytes of each block, by its number

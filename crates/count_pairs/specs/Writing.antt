@@ -2,7 +2,7 @@
 use Rattle.std.specs.Prelude.{◌≡◌, ◌≢◌, ◌<◌, ◌-◌, ℕ, Bool, true, false, List, length, slice_get}
 use Rattle.vol_numbers.specs.declared.block.Block.{Block}
 use Rattle.disk_model.specs.Disk.{State, is_among}
-use Rattle.root_switch.specs.Homes.{home_bit}
+use Rattle.block_format.specs.Homes.{home_bit}
 use Rattle.count_pairs.specs.Homes.{home_of, other_of}
 use Rattle.count_pairs.specs.Table.{is_touched}
 

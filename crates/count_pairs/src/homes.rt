@@ -1,9 +1,9 @@
 //! The two homes of a count block, by the home bits of a root.
 ghost use Rattle.std.specs.Prelude.{◌≡◌, ◌≢◌, ◌<◌, ◌-◌, ◌*◌, ℕ, length};
-ghost use Rattle.root_switch.specs.Homes.{home_bit};
+ghost use Rattle.block_format.specs.Homes.{home_bit};
 ghost use Rattle.count_pairs.specs.Homes.{home_of, other_of};
 
-use root_switch::HomeBits;
+use block_format::HomeBits;
 use vol_numbers::BlockNo;
 
 /// The home of a count block that the bits name.

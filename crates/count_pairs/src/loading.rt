@@ -14,7 +14,7 @@ use crate::CountFault;
 use crate::count_block::counts_of;
 use crate::homes::home;
 use disk_model::{Disk, DiskFault};
-use root_switch::{HomeBits, RootBody};
+use block_format::{HomeBits, RootBody};
 use std::alloc::Global;
 use vol_numbers::Block;
 

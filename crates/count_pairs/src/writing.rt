@@ -11,7 +11,7 @@ ghost use Rattle.count_pairs.specs.Writing.{ChangesOnly, IsWritten, NamesWritten
 use crate::count_block::block_of;
 use crate::homes::{flip, other_home};
 use disk_model::{Disk, DiskFault};
-use root_switch::HomeBits;
+use block_format::HomeBits;
 
 /// Writes each count block that was touched into its other home, and answers the bits that name what was written.
 pub(crate) fn write_touched<D: Disk>(

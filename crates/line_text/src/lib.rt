@@ -9,3 +9,4 @@ mod verb;
 
 pub use line::{Said, line_in};
 pub use number::read_number;
+pub use verb::PathVerb;

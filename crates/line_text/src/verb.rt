@@ -6,7 +6,7 @@ use tree_model::{Command, Path};
 
 /// The verb of a line that has a path and nothing else.
 #[derive(Clone, Copy)]
-pub(crate) enum PathVerb {
+pub enum PathVerb {
     Mkdir,
     Create,
     Remove,
@@ -16,7 +16,8 @@ pub(crate) enum PathVerb {
 }
 
 impl PathVerb {
-    pub(crate) fn from_field(field: &[u8]) -> Option<PathVerb>
+    /// The verb that a field writes, if it is one of these.
+    pub fn from_field(field: &[u8]) -> Option<PathVerb>
         ensures { result ≡ path_verb field.now }
     {
         match field {
@@ -39,7 +40,8 @@ impl PathVerb {
         }
     }
 
-    pub(crate) fn command(self, path: Path) -> Command
+    /// The command of this verb on a path.
+    pub fn command(self, path: Path) -> Command
         ensures { result ≡ command_on self path }
     {
         match self {

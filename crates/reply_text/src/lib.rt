@@ -12,4 +12,4 @@ mod text_line;
 pub use escape::push_escaped;
 pub use fault::PutFault;
 pub use laws::none_begins_another;
-pub use replies::{TEXT_ROOM, put_with_data, write_reply};
+pub use replies::{put_written, write_reply};

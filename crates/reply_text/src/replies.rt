@@ -26,7 +26,7 @@ const BLOCK_ROOM: usize = LINE_ROOM + 4_096;
 const SHORT_ROOM: usize = 2 * LINE_ROOM;
 
 /// Room for the longest line of a session, 8,192 bytes, and for as many bytes as a read or a write has at most.
-pub const TEXT_ROOM: usize = 8_192 + MOST_BYTES;
+const TEXT_ROOM: usize = 8_192 + MOST_BYTES;
 
 fn put_line<W: Sink, const ROOM: usize>(
     buffer: &mut PutBuffer<ROOM>,
@@ -118,8 +118,8 @@ fn put_data<W: Sink, const ROOM: usize>(
     )
 }
 
-/// Puts a line, and behind it bytes and a newline.
-pub fn put_with_data<W: Sink, const ROOM: usize>(
+/// Puts a line by way of a buffer, and behind it bytes and a newline.
+fn put_with_data<W: Sink, const ROOM: usize>(
     buffer: &mut PutBuffer<ROOM>,
     sink: &mut W,
     line: &[u8],
@@ -301,6 +301,19 @@ fn most_bytes(answer: &Answer, list: &str) -> usize {
         _ => list,
     };
     lines.saturating_mul(LINE_ROOM).saturating_add(rest)
+}
+
+/// Appends a line, and behind it bytes and a newline, in one put where they have at most 73,728 bytes. After a fault of the sink a prefix of
+/// them was appended.
+pub fn put_written<W: Sink>(sink: &mut W, line: &str, bytes: &[u8]) -> Result<(), SinkFault>
+    ensures text { PutsText (W.seen sink.old) (W.seen sink.new) (line.now ++ (bytes.now ++ codes "\n")) result }
+    ensures cause { HasCause (W.seen sink.old).faults (W.seen sink.new).faults result }
+{
+    let mut buffer = PutBuffer::<TEXT_ROOM>::new();
+    match put_with_data(&mut buffer, sink, line.as_bytes(), bytes) {
+        Ok(()) => buffer.flush(sink),
+        Err(SinkFault) => Err(SinkFault),
+    }
 }
 
 /// The text of the list in a reply, which is empty where it has none.

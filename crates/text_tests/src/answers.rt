@@ -27,13 +27,10 @@ fn reply_says(alloc: Global, reply: Reply, want: &[u8]) -> Result<bool, Fail> {
 /// Data, and their text.
 const DATA: &[(&[u8], &[u8])] = &[(b"\0\nxyz", b"data 5\n\0\nxyz\n"), (b"", b"data 0\n\n")];
 
-pub fn data(alloc: Global, bytes: &[u8]) -> Result<Reply, Fail> {
-    Ok(Reply::Data(ByteList::from_vec(bytes.to_vec(alloc)?)))
-}
-
 fn data_say(alloc: Global) -> Result<bool, Fail> {
     for row in DATA {
-        if !reply_says(alloc, data(alloc, row.0)?, row.1)? {
+        let data = ByteList::from_vec(row.0.to_vec(alloc)?);
+        if !reply_says(alloc, Reply::Data(data), row.1)? {
             return Ok(false);
         }
     }
@@ -86,21 +83,18 @@ fn line_of(kind: LineKind) -> Line {
     }
 }
 
-/// A report of two lines.
-pub fn report(alloc: Global) -> Result<Report, Fail> {
+/// Done, behind a report of two lines.
+pub fn reported(alloc: Global) -> Result<Answer, Fail> {
     let lines = [line_of(LineKind::Fresh), line_of(LineKind::Share)].to_vec(alloc)?;
-    Ok(Report {
+    let report = Report {
         number: 18_446_744_073_709_551_615,
         fresh: 4,
         shared: 40,
         free: 0,
         lines: LineList::from_vec(lines),
-    })
-}
-
-pub fn reported(alloc: Global) -> Result<Answer, Fail> {
+    };
     Ok(Answer {
-        report: Some(report(alloc)?),
+        report: Some(report),
         reply: Reply::Done,
     })
 }
@@ -114,36 +108,34 @@ fn report_says(alloc: Global) -> Result<bool, Fail> {
     )
 }
 
-fn list_says(alloc: Global) -> Result<bool, Fail> {
-    let want = b"list 2\nd 2 e\nf 65535 %20%25%FFz\n";
-    reply_says(alloc, listed(alloc)?, want)
+fn lists_say(alloc: Global) -> Result<bool, Fail> {
+    let list = b"list 2\nd 2 e\nf 65535 %20%25%FFz\n";
+    let layout = b"layout 2\nrun 0 2 117\ndirty 7 1\n";
+    Ok(reply_says(alloc, listed(alloc)?, list)? && reply_says(alloc, laid_out(alloc)?, layout)?)
 }
 
-fn layout_says(alloc: Global) -> Result<bool, Fail> {
-    let want = b"layout 2\nrun 0 2 117\ndirty 7 1\n";
-    reply_says(alloc, laid_out(alloc)?, want)
-}
-
-fn done_says(alloc: Global) -> Result<bool, Fail> {
-    reply_says(alloc, Reply::Done, b"ok\n")
-}
-
-fn stat_says(alloc: Global) -> Result<bool, Fail> {
-    let stat = Reply::Stat {
-        kind: Kind::File,
-        number: 3,
-        size: 4_294_967_296,
-    };
-    reply_says(alloc, stat, b"stat f 3 4294967296\n")
-}
-
-fn space_says(alloc: Global) -> Result<bool, Fail> {
-    let space = Reply::Space {
-        free: 5,
-        pending: 0,
-        log: 12,
-    };
-    reply_says(alloc, space, b"space free=5 pending=0 log=12\n")
+fn lines_say(alloc: Global) -> Result<bool, Fail> {
+    Ok(
+        reply_says(alloc, Reply::Done, b"ok\n")?
+            && reply_says(
+                alloc,
+                Reply::Stat {
+                    kind: Kind::File,
+                    number: 3,
+                    size: 4_294_967_296,
+                },
+                b"stat f 3 4294967296\n",
+            )?
+            && reply_says(
+                alloc,
+                Reply::Space {
+                    free: 5,
+                    pending: 0,
+                    log: 12,
+                },
+                b"space free=5 pending=0 log=12\n",
+            )?,
+    )
 }
 
 const REFUSALS: &[(Refusal, &[u8])] = &[
@@ -179,21 +171,11 @@ fn refusals_say(alloc: Global) -> Result<bool, Fail> {
 #[test]
 fn answers_have_their_text(rt: HostRuntime) -> Result<(), Fail> {
     let alloc = rt.alloc();
-    let are = data_say(alloc)? && done_says(alloc)? && stat_says(alloc)? && space_says(alloc)?;
+    let are = data_say(alloc)?
+        && lines_say(alloc)?
+        && lists_say(alloc)?
+        && report_says(alloc)?
+        && refusals_say(alloc)?;
     assert!(rt; are);
-    Ok(())
-}
-
-#[test]
-fn lists_have_their_text(rt: HostRuntime) -> Result<(), Fail> {
-    let alloc = rt.alloc();
-    let are = list_says(alloc)? && layout_says(alloc)? && report_says(alloc)?;
-    assert!(rt; are);
-    Ok(())
-}
-
-#[test]
-fn refusals_have_their_names(rt: HostRuntime) -> Result<(), Fail> {
-    assert!(rt; refusals_say(rt.alloc())?);
     Ok(())
 }

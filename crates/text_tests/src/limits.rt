@@ -1,10 +1,11 @@
 //! Sessions at their limits: the budget, the longest line, the most data, and a source that fails.
+use crate::mem_ends::source_of;
 use command_text::{CommandReader, Item, TextFault, print_command};
 use reply_text::write_reply;
 use std::alloc::Global;
 use std::test::Fail;
-use tree_model::{Answer, Command, Refusal, Reply};
-use vol_numbers::{ByteList, CallList};
+use tree_model::{Answer, Refusal, Reply};
+use vol_numbers::CallList;
 use wire_ends::{MemSink, MemSource, Sink};
 
 /// How a session stopped.
@@ -27,15 +28,13 @@ fn show_refusal(alloc: Global, sink: &mut MemSink, refusal: Refusal) -> Result<b
     Ok(true)
 }
 
-fn show_command(alloc: Global, sink: &mut MemSink, command: &Command) -> Result<bool, Fail> {
-    print_command(alloc, sink, command)?;
-    Ok(true)
-}
-
 /// Appends what was read, a command by its spelling and a refusal by its reply. Whether there was one.
 fn show(alloc: Global, sink: &mut MemSink, read: &Result<Item, TextFault>) -> Result<bool, Fail> {
     match read {
-        Ok(Item::Command(command)) => show_command(alloc, sink, command),
+        Ok(Item::Command(command)) => {
+            print_command(alloc, sink, command)?;
+            Ok(true)
+        }
         Ok(Item::Refused(refusal)) => show_refusal(alloc, sink, *refusal),
         _ => {
             sink.put(stop_of(read))?;
@@ -52,7 +51,9 @@ fn show_next(
     sink: &mut MemSink,
 ) -> Result<bool, Fail> {
     let read = reader.read_command(source);
-    show(alloc, sink, &read)
+    let shown = show(alloc, sink, &read);
+    drop(read);
+    shown
 }
 
 /// Reads at most 20 items, and says twice how the session stopped.
@@ -70,41 +71,14 @@ fn show_all(
     Ok(true)
 }
 
-fn show_from(
-    alloc: Global,
-    source: &mut MemSource,
-    budget: u64,
-    sink: &mut MemSink,
-) -> Result<bool, Fail> {
-    let mut reader = CommandReader::new(alloc, budget)?;
-    show_all(alloc, &mut reader, source, sink)
-}
-
-fn call_list(alloc: Global, calls: &[u64]) -> Result<CallList, Fail> {
-    Ok(CallList::from_vec(calls.to_vec(alloc)?))
-}
-
-/// A source of a text that gives at most so many bytes a call, and fails at these calls.
-fn source_of(alloc: Global, text: &[u8], piece: usize, fails: &[u64]) -> Result<MemSource, Fail> {
-    let fails = call_list(alloc, fails)?;
-    let bytes = ByteList::from_vec(text.to_vec(alloc)?);
-    Ok(MemSource::new(bytes, piece.max(1), fails))
-}
-
 /// A text, how many bytes a call of the source gives, which calls fail, and the budget.
 type Given<'a> = (&'a [u8], usize, &'a [u64], u64);
 
 fn show_text(alloc: Global, given: Given, sink: &mut MemSink) -> Result<bool, Fail> {
     let (text, piece, fails, budget) = given;
     let mut source = source_of(alloc, text, piece, fails)?;
-    show_from(alloc, &mut source, budget, sink)
-}
-
-/// What is read of a text, and how the session stops, which it says twice.
-fn session(alloc: Global, given: Given) -> Result<MemSink, Fail> {
-    let mut sink = MemSink::new(alloc, 70_000, CallList::new(alloc))?;
-    show_text(alloc, given, &mut sink)?;
-    Ok(sink)
+    let mut reader = CommandReader::new(alloc, budget)?;
+    show_all(alloc, &mut reader, &mut source, sink)
 }
 
 /// Whether bytes are these parts in a row.
@@ -121,7 +95,8 @@ fn are_parts(bytes: &[u8], parts: &[&[u8]]) -> bool {
 
 /// Whether a session reads these items, and stops so at every later call.
 pub fn is_session(alloc: Global, given: Given, items: &[u8], stop: &[u8]) -> Result<bool, Fail> {
-    let sink = session(alloc, given)?;
+    let mut sink = MemSink::new(alloc, 70_000, CallList::new(alloc))?;
+    show_text(alloc, given, &mut sink)?;
     Ok(are_parts(sink.bytes(), &[items, stop, stop]))
 }
 
@@ -144,12 +119,6 @@ fn budgets_end_sessions(alloc: Global) -> Result<bool, Fail> {
         }
     }
     Ok(true)
-}
-
-#[test]
-fn a_budget_ends_the_session(rt: HostRuntime) -> Result<(), Fail> {
-    assert!(rt; budgets_end_sessions(rt.alloc())?);
-    Ok(())
 }
 
 /// The front of a text, how many bytes `x` follow, its back; what is read, and how the session stops.
@@ -193,16 +162,22 @@ fn is_longest_write(alloc: Global) -> Result<bool, Fail> {
     is_session(alloc, (&text, 1_000, &[], 1_000_000), &text, b"ended")
 }
 
-#[test]
-fn limits_are_exact(rt: HostRuntime) -> Result<(), Fail> {
-    assert!(rt; are_limits(rt.alloc())?);
-    assert!(rt; is_longest_write(rt.alloc())?);
-    Ok(())
+fn is_stopped_by_its_source(alloc: Global) -> Result<bool, Fail> {
+    is_session(
+        alloc,
+        (b"space\nspace\n", 6, &[1], 100),
+        b"space\n",
+        b"source",
+    )
 }
 
 #[test]
-fn a_failed_source_stops_the_session(rt: HostRuntime) -> Result<(), Fail> {
-    let given: Given = (b"space\nspace\n", 6, &[1], 100);
-    assert!(rt; is_session(rt.alloc(), given, b"space\n", b"source")?);
+fn sessions_stop_at_their_limits(rt: HostRuntime) -> Result<(), Fail> {
+    let alloc = rt.alloc();
+    let stop = budgets_end_sessions(alloc)?
+        && are_limits(alloc)?
+        && is_longest_write(alloc)?
+        && is_stopped_by_its_source(alloc)?;
+    assert!(rt; stop);
     Ok(())
 }

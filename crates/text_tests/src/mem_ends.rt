@@ -31,7 +31,13 @@ const SOURCES: &[(&[u8], usize, &[u64], usize, &[Taken])] = &[
     (b"", 9, &[], 0, &[Ok(0)]),
 ];
 
-fn source_of(alloc: Global, bytes: &[u8], piece: usize, fails: &[u64]) -> Result<MemSource, Fail> {
+/// A source of these bytes that gives at most so many a call, and fails at these calls.
+pub fn source_of(
+    alloc: Global,
+    bytes: &[u8],
+    piece: usize,
+    fails: &[u64],
+) -> Result<MemSource, Fail> {
     let fails = call_list(alloc, fails)?;
     let bytes = ByteList::from_vec(bytes.to_vec(alloc)?);
     Ok(MemSource::new(bytes, piece.max(1), fails))
@@ -45,12 +51,6 @@ fn are_taken(alloc: Global) -> Result<bool, Fail> {
         }
     }
     Ok(true)
-}
-
-#[test]
-fn memory_is_taken_in_pieces(rt: HostRuntime) -> Result<(), Fail> {
-    assert!(rt; are_taken(rt.alloc())?);
-    Ok(())
 }
 
 /// What is put, one behind the other.
@@ -84,12 +84,6 @@ fn have_exact_room(alloc: Global) -> Result<bool, Fail> {
         }
     }
     Ok(true)
-}
-
-#[test]
-fn memory_has_exact_room(rt: HostRuntime) -> Result<(), Fail> {
-    assert!(rt; have_exact_room(rt.alloc())?);
-    Ok(())
 }
 
 /// The pieces that go through a buffer of four bytes, the puts of the sink that fail; how many calls failed, and what the sink got.
@@ -150,7 +144,9 @@ fn are_buffered(alloc: Global) -> Result<bool, Fail> {
 }
 
 #[test]
-fn buffers_put_what_has_room_at_once(rt: HostRuntime) -> Result<(), Fail> {
-    assert!(rt; are_buffered(rt.alloc())?);
+fn memory_gives_and_takes_by_its_plan(rt: HostRuntime) -> Result<(), Fail> {
+    let alloc = rt.alloc();
+    let does = are_taken(alloc)? && have_exact_room(alloc)? && are_buffered(alloc)?;
+    assert!(rt; does);
     Ok(())
 }

@@ -45,11 +45,11 @@ fn kind_of(error: Option<io::Error>) -> Option<io::ErrorKind> {
     }
 }
 
-#[test]
-fn slices_are_taken_in_pieces(rt: HostRuntime) {
+fn is_slice_taken() -> bool {
     let mut source = StdSource::new(b"abcde".as_slice());
-    let taken = takes(&mut source, 3, &[Ok(3), Ok(2), Ok(0)], b"abcde");
-    assert!(rt; taken && source.faults() == so_many(0) && source.error().is_none());
+    takes(&mut source, 3, &[Ok(3), Ok(2), Ok(0)], b"abcde")
+        && source.faults() == so_many(0)
+        && source.error().is_none()
 }
 
 /// Its second call fails.
@@ -83,8 +83,8 @@ fn is_failed_read_counted() -> bool {
 }
 
 #[test]
-fn failed_read_is_counted(rt: HostRuntime) {
-    assert!(rt; is_failed_read_counted());
+fn readers_are_taken_in_pieces(rt: HostRuntime) {
+    assert!(rt; is_slice_taken() && is_failed_read_counted());
 }
 
 /// Takes at most so many bytes a call, fails where `room` would be passed, and counts its flushes, which fail where they are `stuck`.
@@ -123,11 +123,6 @@ fn vector_takes_all(alloc: Global) -> bool {
     done && sink.writer().as_slice() == b"abcde".as_slice()
         && sink.faults() == so_many(0)
         && sink.error().is_none()
-}
-
-#[test]
-fn vectors_take_all(rt: HostRuntime) {
-    assert!(rt; vector_takes_all(rt.alloc()));
 }
 
 /// How many bytes a call takes, room, whether a flush fails; what was written, how many flushes came, and the kind of the error.
@@ -183,6 +178,6 @@ fn pieces_are_written(alloc: Global) -> bool {
 }
 
 #[test]
-fn writers_take_pieces(rt: HostRuntime) {
-    assert!(rt; pieces_are_written(rt.alloc()));
+fn writers_take_all_in_pieces(rt: HostRuntime) {
+    assert!(rt; vector_takes_all(rt.alloc()) && pieces_are_written(rt.alloc()));
 }

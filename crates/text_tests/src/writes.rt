@@ -104,22 +104,20 @@ fn long_layout(alloc: Global, count: usize) -> Result<Reply, Fail> {
     Ok(Reply::Layout(PieceList::from_vec(pieces)))
 }
 
-/// So many entries, and how many bytes they are.
-fn list_is_one(alloc: Global, entries: usize, count: usize) -> Result<bool, Fail> {
-    is_one(alloc, long_list(alloc, entries)?, count)
+fn short_are_one(alloc: Global) -> Result<bool, Fail> {
+    Ok(
+        is_one(alloc, Reply::Done, 3)?
+            && is_one(alloc, Reply::Refused(Refusal::BadName), 18)?
+            && is_one(alloc, listed(alloc)?, 32)?
+            && is_one(alloc, laid_out(alloc)?, 31)?,
+    )
 }
 
-/// So many pieces, and how many bytes they are.
-fn layout_is_one(alloc: Global, pieces: usize, count: usize) -> Result<bool, Fail> {
-    is_one(alloc, long_layout(alloc, pieces)?, count)
-}
-
-fn listed_is_one(alloc: Global) -> Result<bool, Fail> {
-    is_one(alloc, listed(alloc)?, 32)
-}
-
-fn laid_out_is_one(alloc: Global) -> Result<bool, Fail> {
-    is_one(alloc, laid_out(alloc)?, 31)
+fn long_are_one(alloc: Global) -> Result<bool, Fail> {
+    Ok(
+        is_one(alloc, long_list(alloc, 1_000)?, 205_010)?
+            && is_one(alloc, long_layout(alloc, 7_000)?, 70_012)?,
+    )
 }
 
 fn report_is_one(alloc: Global) -> Result<bool, Fail> {
@@ -127,45 +125,29 @@ fn report_is_one(alloc: Global) -> Result<bool, Fail> {
     is_one_write(alloc, &answer, 87)
 }
 
-fn lines_are_one(alloc: Global) -> Result<bool, Fail> {
-    let done = is_one(alloc, Reply::Done, 3)?;
-    let refused = is_one(alloc, Reply::Refused(Refusal::BadName), 18)?;
-    Ok(done && refused)
-}
-
 #[test]
-fn short_answers_are_one_write(rt: HostRuntime) -> Result<(), Fail> {
+fn answers_are_one_write(rt: HostRuntime) -> Result<(), Fail> {
     let alloc = rt.alloc();
-    let are = lines_are_one(alloc)?
-        && listed_is_one(alloc)?
-        && laid_out_is_one(alloc)?
-        && report_is_one(alloc)?;
+    let are = short_are_one(alloc)?
+        && report_is_one(alloc)?
+        && data_are_one(alloc)?
+        && long_are_one(alloc)?;
     assert!(rt; are);
     Ok(())
 }
 
-#[test]
-fn long_answers_are_one_write(rt: HostRuntime) -> Result<(), Fail> {
-    let alloc = rt.alloc();
-    let are = data_are_one(alloc)?
-        && list_is_one(alloc, 1_000, 205_010)?
-        && layout_is_one(alloc, 7_000, 70_012)?;
-    assert!(rt; are);
-    Ok(())
-}
-
-fn reply_writes(alloc: Global, reply: Reply) -> Result<(usize, usize, usize), Fail> {
+/// The writes of a layout of so many pieces.
+fn writes_of_layout(alloc: Global, pieces: usize) -> Result<(usize, usize, usize), Fail> {
     let answer = Answer {
         report: None,
-        reply,
+        reply: long_layout(alloc, pieces)?,
     };
     writes_of(alloc, &answer)
 }
 
 #[test]
 fn long_layouts_are_long_writes(rt: HostRuntime) -> Result<(), Fail> {
-    let alloc = rt.alloc();
-    let (writes, bytes, short) = reply_writes(alloc, long_layout(alloc, 20_000)?)?;
+    let (writes, bytes, short) = writes_of_layout(rt.alloc(), 20_000)?;
     assert!(rt; writes == 3 && bytes == 200_013 && short == 1);
     Ok(())
 }

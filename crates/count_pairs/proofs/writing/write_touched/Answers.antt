@@ -2,7 +2,7 @@ use Rattle.std.proofs.Common.{◌≡◌, ◌≢◌, ◌∙◌, ◌<◌, ◌+◌,
 use Rattle.std.proofs.lemmas.Bool.{cases_eq, false≢true}
 use Rattle.disk_model.specs.Disk.{State, is_among}
 use Rattle.disk_model.proofs.Moments.{adds_then}
-use Rattle.root_switch.specs.Homes.{home_bit}
+use Rattle.block_format.specs.Homes.{home_bit}
 use Rattle.count_pairs.specs.Homes.{blocks_in, other_of}
 use Rattle.count_pairs.specs.Table.{count_block, is_touched}
 use Rattle.count_pairs.specs.Words.{words}

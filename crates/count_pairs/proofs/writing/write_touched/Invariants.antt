@@ -1,7 +1,7 @@
 use Rattle.std.proofs.Common.{◌≡◌, ◌<◌, ◌≤◌, ◌-◌, ℕ, IsTrue, true, false, length}
 use Rattle.disk_model.specs.Disk.{is_among}
 use Rattle.disk_model.specs.Past.{Adds}
-use Rattle.root_switch.specs.Homes.{home_bit}
+use Rattle.block_format.specs.Homes.{home_bit}
 use Rattle.count_pairs.specs.Homes.{blocks_in, other_of}
 use Rattle.count_pairs.specs.Table.{count_block, is_touched}
 use Rattle.count_pairs.specs.Words.{words}

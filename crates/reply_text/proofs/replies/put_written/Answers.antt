@@ -2,7 +2,7 @@ use Rattle.std.proofs.Common.{◌++◌, List, ℕ, subst}
 use Rattle.std.specs.Prelude.{codes}
 use Rattle.reply_text.specs.Putting.{PutsText}
 use Rattle.reply_text.proofs.ListPuts.{let_out}
-use Rattle.command_text.proofs.print.put_written.Goals as goal
+use Rattle.reply_text.proofs.replies.put_written.Goals as goal
 
 pub returns-in-Ok-clause-text : goal.returns-in-Ok-clause-text
 returns-in-Ok-clause-text g c =
