@@ -1,13 +1,32 @@
 //! A count block: 1,024 counts.
 ghost use Rattle.std.specs.Prelude.{◌≡◌, ◌<◌, ◌≤◌, ◌+◌, ◌*◌, ◌++◌, length, take, drop, slice_index, slice_set};
+ghost use Rattle.block_format.specs.Counts.{SpellsCounts, count_bytes};
 ghost use Rattle.block_format.specs.Words.{words};
 ghost use Rattle.byteorder.specs.Endian.{little_bytes};
 
 use crate::bytes::put;
+use crate::words::{bytes_of, numbers_in};
 use byteorder::{ByteOrder, LittleEndian};
 use vol_numbers::Block;
 
-/// The count k of a count block. Every block is one.
+/// The counts of a count block. Every block is one.
+pub fn read_counts(from: &Block) -> [u32; 1024]
+    ensures counts { result ≡ words from.now.bytes }
+    ensures spelled { SpellsCounts result from.now.bytes }
+{
+    numbers_in(&from.bytes)
+}
+
+/// Writes the one block that spells these 1,024 counts.
+pub fn write_counts(counts: &[u32], into: &mut Block)
+    requires { length counts.now ≡ 1024 }
+    ensures spelled { into.new.bytes ≡ count_bytes counts.now }
+    ensures reads_back { words into.new.bytes ≡ counts.now }
+{
+    into.bytes = bytes_of(counts);
+}
+
+/// The count k of a count block.
 pub fn read_count(from: &Block, k: u32) -> u32
     requires { k < 1024 }
     ensures { result ≡ slice_index (words from.now.bytes) k }

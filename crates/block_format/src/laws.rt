@@ -8,7 +8,7 @@ ghost use Rattle.block_format.specs.Counts.{SpellsCounts};
 ghost use Rattle.block_format.specs.Inode.{IsInode, inode_in, inode_bytes, inode_shape, height_of};
 ghost use Rattle.block_format.specs.Slot.{SpellsSlot, SlotFits, slot_in, slot_bytes};
 
-use crate::{Index, Inode, RootBody, Slot, read_words};
+use crate::{Index, Inode, RootBody, Slot, read_counts};
 use vol_numbers::{Block, Geometry};
 
 /// A root is read as it was spelled.
@@ -46,7 +46,7 @@ pub fn same_index(index: &Index, other: &Index, g: &Geometry, block: &Block)
 pub fn counts_of_block(block: &Block)
     ensures { SpellsCounts (words block.now.bytes) block.now.bytes }
 {
-    let _counts = read_words(block);
+    let _counts = read_counts(block);
 }
 
 /// Two lists of counts with one spelling are the same.

@@ -11,10 +11,11 @@ mod laws;
 mod pointer;
 mod root;
 mod slot;
+mod words;
 
-pub use counts::{read_count, write_count};
+pub use counts::{read_count, read_counts, write_count, write_counts};
 pub use homes::HomeBits;
-pub use index::{Index, read_index, read_words, write_index};
+pub use index::{Index, read_index, write_index};
 pub use inode::{Inode, blocks_of, height_of, read_any_inode, read_inode, write_inode};
 pub use laws::{
     counts_of_block, heights_are_least, index_of_spelling, inode_of_spelling, inode_reads_back,

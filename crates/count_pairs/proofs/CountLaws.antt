@@ -1,5 +1,5 @@
 -- Counts block by block.
-use Rattle.std.proofs.Common.{◌≡◌, ◌≢◌, ◌<◌, ◌≤◌, ℕ, zero, suc, ◌+◌, ◌*◌, ◌/◌, ◌-◌, Bool, true, false, List, [], ◌∷◌, ◌++◌, length, take, drop, set, refl, ap, sym, ◌∙◌, subst, arith, inl, inr, ◌⊎◌, ⊎_elim}
+use Rattle.std.proofs.Common.{◌≡◌, ◌≢◌, ◌<◌, ◌≤◌, ℕ, zero, suc, ◌+◌, ◌*◌, ◌/◌, ◌-◌, Bool, true, false, List, [], ◌∷◌, ◌++◌, length, take, drop, ap, sym, ◌∙◌, subst, arith, inl, inr, ◌⊎◌, ⊎_elim}
 use Rattle.std.specs.Prelude.{slice_set}
 use Rattle.std.proofs.lemmas.Bool.{cases_Bool, cases_eq, false≢true}
 use Rattle.std.proofs.lemmas.List.{drop_at, drop_all, drop-append-le, take-append-le, take_all, length-drop, take-append-drop, drop-set-lt, drop-set-add, take-set-le, get_or-set_same, get_or-set_other, length-set}
@@ -7,7 +7,7 @@ use Rattle.disk_model.specs.Disk.{Given}
 use Rattle.count_pairs.specs.Homes.{Blocks, home_of, other_of, counts_from}
 use Rattle.count_pairs.specs.Loading.{GivesLast}
 use Rattle.count_pairs.specs.Table.{Table, count_block, is_touched, AllStand, IsKept}
-use Rattle.count_pairs.specs.Words.{words}
+use Rattle.block_format.specs.Words.{words}
 use Rattle.count_pairs.specs.Writing.{NamesWritten}
 
 -- the last count block is what was read last

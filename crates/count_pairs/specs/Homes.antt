@@ -3,7 +3,7 @@ use Rattle.std.specs.Prelude.{◌+◌, ◌*◌, ◌-◌, ℕ, zero, suc, List, [
 use Rattle.vol_numbers.specs.Block.{zero_block}
 use Rattle.vol_numbers.specs.declared.block.Block.{Block}
 use Rattle.block_format.specs.Homes.{home_bit}
-use Rattle.count_pairs.specs.Words.{words}
+use Rattle.block_format.specs.Words.{words}
 
 -- the bytes of each block, by its number
 abbrev pub Blocks : Type 0

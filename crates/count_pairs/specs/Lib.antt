@@ -1,4 +1,3 @@
-pub mod Words
 pub mod Homes
 pub mod Table
 pub mod Writing

@@ -1,7 +1,7 @@
 -- Counts in memory, and which of them stand on the disk.
 use Rattle.std.specs.Prelude.{◌≡◌, ◌<◌, ◌*◌, ℕ, Bool, false, List, length, take, drop, slice_index_or}
 use Rattle.count_pairs.specs.Homes.{Blocks, home_of}
-use Rattle.count_pairs.specs.Words.{words}
+use Rattle.block_format.specs.Words.{words}
 
 pub record Table : Type 0 where
   -- how many pointers lead to each block

@@ -14,10 +14,10 @@ ghost use Rattle.count_pairs.specs.Writing.{ChangesOnly, HasNamedHomes, IsWritte
 
 use crate::CountFault;
 use crate::count_block::COUNTS_PER_BLOCK;
-use crate::loading::read_counts;
+use crate::loading::read_table;
 use crate::writing::write_touched;
-use disk_model::{Disk, DiskFault};
 use block_format::{HomeBits, RootBody};
+use disk_model::{Disk, DiskFault};
 use std::alloc::Global;
 use std::marker::Model;
 use vol_numbers::BlockNo;
@@ -61,7 +61,7 @@ impl CountTable {
         ensures fixed { D.fixed disk.new ≡ D.fixed disk.old }
         ensures cause { HasCountCause (D.faults disk.old) (D.faults disk.new) result }
     {
-        let counts = read_counts(alloc, disk, body)?;
+        let counts = read_table(alloc, disk, body)?;
         let touched = vec![in alloc; false; body.geometry.count_blocks() as usize]?;
         Ok(CountTable { counts, touched })
     }

@@ -8,18 +8,17 @@ ghost use Rattle.count_pairs.specs.Cause.{HasCountCause};
 ghost use Rattle.count_pairs.specs.Homes.{blocks_in, home_of};
 ghost use Rattle.count_pairs.specs.Loading.{GivesLast};
 ghost use Rattle.count_pairs.specs.Table.{AllStand};
-ghost use Rattle.count_pairs.specs.Words.{words};
+ghost use Rattle.block_format.specs.Words.{words};
 
 use crate::CountFault;
-use crate::count_block::counts_of;
 use crate::homes::home;
+use block_format::{HomeBits, RootBody, read_counts};
 use disk_model::{Disk, DiskFault};
-use block_format::{HomeBits, RootBody};
 use std::alloc::Global;
 use vol_numbers::Block;
 
 /// The counts of all count blocks.
-pub(crate) fn read_counts<D: Disk>(
+pub(crate) fn read_table<D: Disk>(
     alloc: Global,
     disk: &mut D,
     body: &RootBody,
@@ -55,5 +54,5 @@ fn read_one<D: Disk>(disk: &mut D, homes: &HomeBits, i: u32) -> Result<[u32; 102
 {
     let mut block = Block::zero();
     disk.read_block(home(homes, i), &mut block)?;
-    Ok(counts_of(&block))
+    Ok(read_counts(&block))
 }

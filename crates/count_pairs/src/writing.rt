@@ -5,13 +5,13 @@ ghost use Rattle.disk_model.specs.Disk.{is_among};
 ghost use Rattle.disk_model.specs.Past.{Adds};
 ghost use Rattle.count_pairs.specs.Homes.{blocks_in, other_of};
 ghost use Rattle.count_pairs.specs.Table.{count_block, is_touched};
-ghost use Rattle.count_pairs.specs.Words.{words};
+ghost use Rattle.block_format.specs.Words.{words};
 ghost use Rattle.count_pairs.specs.Writing.{ChangesOnly, IsWritten, NamesWritten};
 
 use crate::count_block::block_of;
 use crate::homes::{flip, other_home};
-use disk_model::{Disk, DiskFault};
 use block_format::HomeBits;
+use disk_model::{Disk, DiskFault};
 
 /// Writes each count block that was touched into its other home, and answers the bits that name what was written.
 pub(crate) fn write_touched<D: Disk>(

@@ -3,4 +3,4 @@ use Rattle.block_format.specs.Counts.{SpellsCounts}
 use Rattle.block_format.proofs.laws.counts_of_block.Goals as goal
 
 pub returns : goal.returns
-returns c = subst (λ (ns : List ℕ). SpellsCounts ns c.args.block.now.bytes) c.read_words-counts.ensures.words c.read_words-counts.ensures.spelled
+returns c = subst (λ (ns : List ℕ). SpellsCounts ns c.args.block.now.bytes) c.read_counts-counts.ensures.counts c.read_counts-counts.ensures.spelled

@@ -5,4 +5,4 @@ pub returns : goal.returns
 returns c =
     let at : ℕ = 1024 * c.args.i in
     let long : at + 1024 - at ≡ 1024 = omega arith in
-    c.spelled.ensures ∙ ap (λ (n : ℕ). take n (drop at c.args.counts.now)) long
+    c.write_counts.ensures.reads_back ∙ ap (λ (n : ℕ). take n (drop at c.args.counts.now)) long

@@ -1,11 +1,11 @@
-use Rattle.std.proofs.Common.{◌≡◌, ◌≢◌, ◌∙◌, ◌<◌, ◌+◌, ◌-◌, ℕ, true, false, List, Bool, ap, sym, subst, arith, ⊎_elim}
+use Rattle.std.proofs.Common.{◌≡◌, ◌∙◌, ◌-◌, ℕ, true, ap, sym, subst, arith, ⊎_elim}
 use Rattle.std.proofs.lemmas.Bool.{cases_eq, false≢true}
 use Rattle.disk_model.specs.Disk.{State, is_among}
 use Rattle.disk_model.proofs.Moments.{adds_then}
 use Rattle.block_format.specs.Homes.{home_bit}
 use Rattle.count_pairs.specs.Homes.{blocks_in, other_of}
 use Rattle.count_pairs.specs.Table.{count_block, is_touched}
-use Rattle.count_pairs.specs.Words.{words}
+use Rattle.block_format.specs.Words.{words}
 use Rattle.count_pairs.specs.Writing.{IsWritten}
 use Rattle.count_pairs.proofs.ChangeLaws.{bytes_kept, changes_then, others_apart}
 use Rattle.count_pairs.proofs.writing.write_touched.Goals as goal

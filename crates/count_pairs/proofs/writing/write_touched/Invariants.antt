@@ -1,10 +1,10 @@
-use Rattle.std.proofs.Common.{◌≡◌, ◌<◌, ◌≤◌, ◌-◌, ℕ, IsTrue, true, false, length}
+use Rattle.std.proofs.Common.{◌≡◌, ◌<◌, ◌≤◌, ◌-◌, ℕ, IsTrue, true, false}
 use Rattle.disk_model.specs.Disk.{is_among}
 use Rattle.disk_model.specs.Past.{Adds}
 use Rattle.block_format.specs.Homes.{home_bit}
 use Rattle.count_pairs.specs.Homes.{blocks_in, other_of}
 use Rattle.count_pairs.specs.Table.{count_block, is_touched}
-use Rattle.count_pairs.specs.Words.{words}
+use Rattle.block_format.specs.Words.{words}
 use Rattle.count_pairs.specs.Writing.{ChangesOnly, IsWritten}
 use Rattle.count_pairs.proofs.writing.write_touched.Given as goal
 

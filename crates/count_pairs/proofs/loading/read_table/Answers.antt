@@ -1,11 +1,11 @@
-use Rattle.std.proofs.Common.{◌≡◌, ◌∙◌, ◌+◌, ◌-◌, ◌++◌, ℕ, List, ap, sym, subst, arith, length}
+use Rattle.std.proofs.Common.{◌≡◌, ◌∙◌, ap, subst, arith, length}
 use Rattle.std.proofs.lemmas.List.{length-append}
 use Rattle.disk_model.specs.Disk.{State}
 use Rattle.disk_model.proofs.Moments.{adds_read}
 use Rattle.count_pairs.specs.Homes.{blocks_in, home_of}
-use Rattle.count_pairs.specs.Words.{words}
+use Rattle.block_format.specs.Words.{words}
 use Rattle.count_pairs.proofs.CountLaws.{stand_more, given_more}
-use Rattle.count_pairs.proofs.loading.read_counts.Goals as goal
+use Rattle.count_pairs.proofs.loading.read_table.Goals as goal
 
 pub loop-i-preserved : goal.loop-i-preserved
 loop-i-preserved g c =

@@ -3,7 +3,7 @@ use Rattle.disk_model.specs.Past.{Adds}
 use Rattle.count_pairs.specs.Homes.{blocks_in}
 use Rattle.count_pairs.specs.Loading.{GivesLast}
 use Rattle.count_pairs.specs.Table.{AllStand}
-use Rattle.count_pairs.proofs.loading.read_counts.Given as goal
+use Rattle.count_pairs.proofs.loading.read_table.Given as goal
 
 abbrev pub invariant-loop-i : goal.invariant-loop-i
 invariant-loop-i g l = record {
