@@ -14,7 +14,7 @@ pub enum LogFault {
 }
 
 /// Why no block was read.
-#[derive(Clone, Copy, PartialEq, Eq)]
+#[derive(Clone, Copy)]
 pub(crate) enum ReadFault {
     Device,
     OutOfMemory,

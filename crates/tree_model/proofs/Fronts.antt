@@ -1,18 +1,13 @@
 -- Paths: when two are one, and what follows a front.
-use Rattle.std.proofs.Common.{◌≡◌, ℕ, ◌+◌, List, [], ◌∷◌, ◌++◌, length, take, drop, true, false, refl, sym, ap, subst, ◌∙◌, Some, None, inl, inr, arith, append-nil, length-append}
-use Rattle.std.specs.Prelude.{Bool, nat_eq, ◌⊎◌, ◌-◌, ◌&&◌, Option, MatchOption, replicate, if◌then◌else◌}
-use Rattle.std.specs.Option.{option_map}
-use Rattle.std.specs.Cmp.{first_so, second_so, nat_eq_equiv}
+use Rattle.std.proofs.Common.{◌≡◌, ℕ, ◌+◌, List, [], ◌∷◌, ◌++◌, length, true, false, refl, sym, ap, subst, ◌∙◌, Some, None, inl, inr, arith, append-nil, length-append}
+use Rattle.std.specs.Prelude.{Bool, ◌⊎◌, if◌then◌else◌}
 use Rattle.std.specs.Ordering.{eq_by_cmp, is_eq}
 use Rattle.std.specs.declared.cmp.Ordering.{Ordering}
 use Rattle.std.specs.declared.cmp.Ordering.TheVariants.{Less, Equal, Greater}
-use Rattle.std.specs.Cmp.Lexicographic.{pointwise, nat_list_eq_equiv}
+use Rattle.std.specs.Cmp.Lexicographic.{nat_list_eq_equiv}
 use Rattle.std.proofs.lemmas.Cmp.{tied_itself}
-use Rattle.std.proofs.lemmas.Bool.{eqb-true}
-use Rattle.std.proofs.lemmas.List.{take_at}
-use Rattle.vol_numbers.specs.Name.{padded}
 use Rattle.tree_model.specs.Path.{Path, path_cmp, name_eq, is_root, parent_of, strip}
-use Rattle.tree_model.proofs.Paths.{same_path, same_name, same_test}
+use Rattle.tree_model.proofs.Paths.{same_path, same_name}
 use Rattle.tree_model.proofs.AttemptLaws.{path_total}
 
 abbrev pub tie : Path → Path → Bool
