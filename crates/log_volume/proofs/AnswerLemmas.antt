@@ -1,8 +1,7 @@
 -- What a volume answers, by cases on the command.
 use Rattle.std.proofs.Common.{◌≡◌, ◌∙◌, ⊎_elim, inl, ℕ, ◌+◌, ◌≤◌, ◌<◌, Bool, true, false, List, [], ◌∷◌, length, Option, Some, None, Result, Ok, Err, refl, sym, ap, subst, arith}
-use Rattle.std.specs.Prelude.{IfOk, OnErr, ◌||◌, not, is_some, is_err}
+use Rattle.std.specs.Prelude.{IfOk, OnOk, OnErr, ◌||◌, not, is_some, is_err}
 use Rattle.std.specs.Result.{result_err}
-use Rattle.std.proofs.lemmas.Bool.Decides.{nat_tests}
 use Rattle.vol_numbers.specs.declared.block.Block.{Block}
 use Rattle.std.proofs.lemmas.Bool.{false≢true}
 use Rattle.tree_model.specs.Path.{Path, is_root, parent_of}
@@ -49,13 +48,6 @@ change_plain End is = cc
 -- the reply to a command of the tree
 pub reply_plain : (room : ℕ) (kept : Kept) (c : Command) → is_plain c ≡ true → reply_to room kept c ≡ with_room (not (is_change c) || has_room room kept c) (step kept.tree c).0
 reply_plain room kept c is = rw is refl
-
-pub reply_unbuilt : (room : ℕ) (kept : Kept) (c : Command) → is_plain c ≡ false → reply_to room kept c ≡ unbuilt_reply c
-reply_unbuilt room kept c is = rw is refl
-
--- the reply to a command that changes nothing
-pub reply_look : (room : ℕ) (kept : Kept) (c : Command) → is_plain c ≡ true → is_change c ≡ false → reply_to room kept c ≡ Reply (step kept.tree c).0
-reply_look room kept c is reading = rw (is, reading) refl
 
 -- ---- a step of the tree, and what it leaves
 
@@ -127,15 +119,13 @@ refused_legal room kept c refusal change is =
     whatever true refusal = refl
     whatever false refusal = refl
 
-pub full_legal : (room : ℕ) (kept : Kept) (c : Command) → is_change c ≡ true → refusal_of kept.tree c ≡ None → room < kept.used + record_blocks c → Legal room kept c LogFull
-full_legal room kept c change none full =
-    let no_room : has_room room kept c ≡ false = grind (arith, nat_tests) in
+pub full_legal : (room : ℕ) (kept : Kept) (c : Command) → is_change c ≡ true → refusal_of kept.tree c ≡ None → has_room room kept c ≡ false → Legal room kept c LogFull
+full_legal room kept c change none no_room =
     inl (sym (reply_plain room kept c (change_plain c change) ∙ ap (λ (b : Bool). with_room (not b || has_room room kept c) (step kept.tree c).0) change
     ∙ ap (λ (b : Bool). with_room b (step kept.tree c).0) no_room ∙ ap (with_room false) (changes_are_done kept.tree c change none)))
 
-pub reply_done : (room : ℕ) (kept : Kept) (c : Command) → is_change c ≡ true → refusal_of kept.tree c ≡ None → kept.used + record_blocks c ≤ room → reply_to room kept c ≡ Reply reply.Done
-reply_done room kept c change none fits =
-    let some_room : has_room room kept c ≡ true = grind (arith, nat_tests) in
+pub reply_done : (room : ℕ) (kept : Kept) (c : Command) → is_change c ≡ true → refusal_of kept.tree c ≡ None → has_room room kept c ≡ true → reply_to room kept c ≡ Reply reply.Done
+reply_done room kept c change none some_room =
     reply_plain room kept c (change_plain c change) ∙ ap (λ (b : Bool). with_room (not b || has_room room kept c) (step kept.tree c).0) change
     ∙ ap (λ (b : Bool). with_room b (step kept.tree c).0) some_room ∙ ap (with_room true) (changes_are_done kept.tree c change none)
 
@@ -150,13 +140,13 @@ some_of old kept c stands done image either = ⊎_elim
     (λ next. record { count = 1; within = omega arith; stands = next_stands old image c kept next stands done }) either
 
 -- a change that stops is one that the tree does, with room
-pub accepted_stopped : (room : ℕ) (kept : Kept) (c : Command) → is_change c ≡ true → refusal_of kept.tree c ≡ None → kept.used + record_blocks c ≤ room → c ∷ [] ≡ accepted c (reply_to room kept c)
+pub accepted_stopped : (room : ℕ) (kept : Kept) (c : Command) → is_change c ≡ true → refusal_of kept.tree c ≡ None → has_room room kept c ≡ true → c ∷ [] ≡ accepted c (reply_to room kept c)
 accepted_stopped room kept c change none fits = sym (ap (accepted c) (reply_done room kept c change none fits) ∙ accepted_done c change)
 
--- the tree after a step that was made
-pub stepped_tree : {E : Type 0} (old new : Tree) (c : Command) (r : Result reply.the_data E) → IfOk r (λ given. step old c ≡ (given, new)) → is_err r ≡ false → (step old c).1 ≡ new
-stepped_tree old new c (Ok given) stepped ok = ap (λ (p : reply.the_data × Tree). p.1) stepped
-stepped_tree old new c (Err e) stepped ok = cc
+-- what holds of an answer that is no error
+pub of_ok : {T E P : Type 0} (r : Result T E) → OnOk r P → is_err r ≡ false → P
+of_ok (Ok x) holds ok = holds
+of_ok (Err e) holds ok = cc
 
 -- what is kept with a tree and a use of the log
 pub same_kept : (tree new : Tree) (used other : ℕ) → tree ≡ new → used ≡ other → let one : Kept = record { tree = tree; used = used } in let two : Kept = record { tree = new; used = other } in one ≡ two

@@ -30,10 +30,6 @@ pub used_after : (commands : List Command) (kept : Kept) → (after commands kep
 used_after [] kept = omega arith
 used_after (c ∷ commands) kept = omega (arith, used_after commands (and_command kept c))
 
--- the log in use is as long as what is kept says
-pub used_kept : {image : List Block} {kept : Kept} → Logs image kept → kept.used ≡ used_in image
-used_kept logs = omega (arith, ap (λ (k : Kept). k.used) logs.is, used_after logs.commands nothing_kept, logs.filled)
-
 pub one_meaning : OneMeaning
 one_meaning image kept other stands others =
     let same : stands.logs.commands ≡ others.logs.commands =

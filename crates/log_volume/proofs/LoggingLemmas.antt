@@ -72,13 +72,6 @@ module _ (s : State) (slot : ℕ) (b : RootBody) (command : Command) (at : ℕ)
 
   -- the record is written: the root can be switched
   module _ (t : State) (changes : ChangesWithin at count s t) where
-    pub staged_current : IsCurrent slot t
-    staged_current = record {
-      slot_is = ap (λ (o : Option Block). unwrap_or (option_map (λ (b : Block). slice_index b.bytes 0) o) 0 % 2) (changes.others 0 (below 0 (omega arith))) ∙ current.slot_is;
-      selector_synced = changes.others_unsynced 0 (below 0 (omega arith)) ∙ was_synced 0;
-      slot_synced = changes.others_unsynced (1 + slot) (below (1 + slot) (omega (arith, is_slot))) ∙ was_synced (1 + slot);
-    }
-
     old_keeps : (image : List Block) → HasOldRoot t slot image → KeepsLive old image
     old_keeps image has = record {
       as_long = has.as_long ∙ changes.as_long;
@@ -118,8 +111,3 @@ module _ (s : State) (slot : ℕ) (b : RootBody) (command : Command) (at : ℕ)
 
       pub switched_next : (u : State) → IsSwitched t slot next u → HasNext old u.contents command
       switched_next u is = new_next u.contents (record { as_long = is.as_long; root = is.root; others = is.others })
-
-      pub switched_current : (u : State) → IsSwitched t slot next u → HasCurrent (1 - slot) (root_of next) u
-      switched_current u is =
-          let has = switched_next u is in
-          record { all_synced = is.all_synced; slot_is = is.slot_is; root_is = says u.contents (record { as_long = is.as_long; root = is.root; others = is.others }); has = has.root; fits = has.fits }

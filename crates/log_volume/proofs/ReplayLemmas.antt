@@ -1,6 +1,6 @@
 -- Commands that are done in turn, and what they make of a log.
 use Rattle.std.proofs.Common.{◌≡◌, ◌∙◌, ◌<◌, ◌≤◌, ◌+◌, inl, ℕ, zero, suc, Bool, List, [], ◌∷◌, ◌++◌, length, get_or, take, Option, Some, None, refl, sym, ap, subst, arith, add-one, length-append}
-use Rattle.std.specs.Prelude.{slice_get, IsTrue, IfSome, IfNone}
+use Rattle.std.specs.Prelude.{slice_get, Result, Ok, Err, IsTrue, IfSome, IfNone}
 use Rattle.vol_numbers.specs.Layout.{log_start}
 use Rattle.vol_numbers.specs.declared.block.Block.{Block}
 use Rattle.block_format.specs.declared.root.RootBody.{RootBody}
@@ -8,35 +8,22 @@ use Rattle.block_format.specs.Root.{Root, root_of}
 use Rattle.root_switch.specs.Current.{root_of_image}
 use Rattle.tree_model.specs.Tree.{Tree}
 use Rattle.tree_model.specs.declared.command.Command.{Command}
-use Rattle.tree_model.specs.declared.command.Command.TheVariants.{Mkdir, Create, Write, Truncate, Remove, Rename, Read, List as ListOf, Stat, Layout, Space, Checkpoint, End}
 use Rattle.tree_model.specs.declared.reply.Reply.{Reply}
 use Rattle.tree_model.specs.declared.reply.Reply.TheVariants.{Done}
-use Rattle.tree_model.specs.Step.{step, is_plain}
+use Rattle.tree_model.specs.Step.{step}
 use Rattle.op_log.specs.Log.{HoldsRecords, RecordsStand, IsFirstBad, blocks_of}
-use Rattle.op_log.specs.Record.{HasRecord, record_blocks}
+use Rattle.op_log.specs.Record.{record_blocks}
 use Rattle.op_log.proofs.LogLemmas.{one_log}
 use Rattle.log_volume.specs.Finding.{HasBadLog}
 use Rattle.log_volume.specs.Image.{LogHolds, Logs, layout_in, records_in, used_in}
 use Rattle.log_volume.specs.Replay.{Kept, nothing_kept, after, IsDone, DoesEach}
-use Rattle.log_volume.specs.Replaying.{ReadsFront, IsRefusedAt}
+use Rattle.log_volume.specs.Mounting.{OnFound, FindsLog}
+use Rattle.log_volume.specs.Replaying.{ReadsFront, IsRefusal, IsRefusedAt}
+use Rattle.log_volume.specs.declared.finding.Finding.TheVariants.{NoRoot, BadGeometry, Unbuilt, BadLog}
+use Rattle.log_volume.specs.declared.mounting.MountFault.{MountFault}
+use Rattle.log_volume.specs.declared.mounting.MountFault.TheVariants.{Found, Device, OutOfMemory}
 use Rattle.log_volume.specs.declared.replaying.Front.{Front}
 use Rattle.log_volume.proofs.ImageLaws.{used_after, does-push, after-push}
-
--- what has a record is a command of the tree
-pub record_plain : (c : Command) → HasRecord c → IsTrue (is_plain c)
-record_plain (Mkdir path) has = refl
-record_plain (Create path) has = refl
-record_plain (Write path offset bytes) has = refl
-record_plain (Truncate path size) has = refl
-record_plain (Remove path) has = refl
-record_plain (Rename from to) has = refl
-record_plain (Read path offset length) has = absurd has
-record_plain (ListOf path) has = absurd has
-record_plain (Stat path) has = absurd has
-record_plain (Layout path) has = absurd has
-record_plain Space has = absurd has
-record_plain Checkpoint has = absurd has
-record_plain End has = absurd has
 
 pub take_next : {X : Type 0} (n : ℕ) (xs : List X) (x : X) → slice_get xs n ≡ Some x → take (suc n) xs ≡ take n xs ++ x ∷ []
 take_next n [] x there = cc
@@ -148,6 +135,17 @@ module _ (tells : Bool) (image : List Block) (body : RootBody) (front : Front) (
         done = done;
         is = λ i. record { tree = made i; used = used i };
       }
+
+-- what is found in doing them is found in the log
+pub refused_found : {T : Type 0} (tells : Bool) (image : List Block) (body : RootBody) (front : Front) (r : Result T MountFault) → ReadsFront tells image body front → (IsTrue tells → root_of_image image ≡ root_of body)
+    → OnFound r (IsRefusal front.commands) → OnFound r (λ finding. IsTrue tells → FindsLog image finding)
+refused_found tells image body front (Ok tree) reads root refused = tt
+refused_found tells image body front (Err (Found NoRoot)) reads root refused = absurd refused
+refused_found tells image body front (Err (Found BadGeometry)) reads root refused = absurd refused
+refused_found tells image body front (Err (Found Unbuilt)) reads root refused = absurd refused
+refused_found tells image body front (Err (Found (BadLog i))) reads root refused = λ is. refused_bad tells image body front is reads (root is) i refused
+refused_found tells image body front (Err Device) reads root refused = tt
+refused_found tells image body front (Err OutOfMemory) reads root refused = tt
 
 -- the next command is done too
 pub does_next : (cs : List Command) (i : ℕ) (c : Command) (tree new : Tree) → slice_get cs i ≡ Some c → DoesEach nothing_kept (take i cs) → tree ≡ (after (take i cs) nothing_kept).tree

@@ -1,5 +1,5 @@
 //! Reads the log of a volume, and does its commands on a new tree.
-ghost use Rattle.std.specs.Prelude.{◌≡◌, ◌<◌, ◌≤◌, All, length, IfOk, IsTrue};
+ghost use Rattle.std.specs.Prelude.{◌≡◌, ◌<◌, ◌≤◌, ℕ, All, length, IfOk, IsTrue};
 ghost use Rattle.disk_model.specs.Past.{Adds};
 ghost use Rattle.block_format.specs.Root.{root_of, HasGeometry};
 ghost use Rattle.root_switch.specs.Current.{root_of_image};
@@ -10,7 +10,7 @@ ghost use Rattle.op_log.specs.Record.{HasRecord};
 ghost use Rattle.log_volume.specs.Image.{Logs};
 ghost use Rattle.log_volume.specs.Mounting.{OnFound, HasMountCause, FindsLog};
 ghost use Rattle.log_volume.specs.Replay.{nothing_kept, after, DoesEach};
-ghost use Rattle.log_volume.specs.Replaying.{ReadsFront, IfRefused, IsRefusedAt};
+ghost use Rattle.log_volume.specs.Replaying.{ReadsFront, IsRefusal};
 
 use crate::{Finding, MountFault};
 use block_format::RootBody;
@@ -40,13 +40,15 @@ pub(crate) fn read_tree<D: Disk>(
     let front = read_front(alloc, disk, body)?;
     let tree = match replay(alloc, front.commands.as_slice()) {
         Ok(tree) => tree,
-        Err(ReplayFault::Refused(i)) => return Err(MountFault::Found(Finding::BadLog(i))),
-        Err(ReplayFault::OutOfMemory) => return Err(MountFault::OutOfMemory),
+        Err(fault) => return Err(fault),
     };
-    if let Some(i) = front.bad {
+    let used = blocks_of(&front.commands);
+    let bad = front.bad;
+    drop(front);
+    if let Some(i) = bad {
         return Err(MountFault::Found(Finding::BadLog(i)));
     }
-    if blocks_of(&front.commands) < body.log_used {
+    if used < body.log_used {
         return Err(MountFault::Found(Finding::BadLog(body.records)));
     }
     Ok(tree)
@@ -123,38 +125,32 @@ fn shorter(body: &RootBody, records: u32) -> RootBody
     shorter
 }
 
-/// Why commands were not done.
-pub(crate) enum ReplayFault {
-    /// The tree refuses the command of this index.
-    Refused(u32),
-    OutOfMemory,
-}
-
-impl From<AllocError> for ReplayFault {
+impl From<AllocError> for MountFault {
     ghost use Rattle.std.specs.Prelude.{◌≡◌};
-    ghost use Rattle.log_volume.specs.declared.replaying.ReplayFault.TheVariants.{OutOfMemory};
+    ghost use Rattle.log_volume.specs.declared.mounting.MountFault.TheVariants.{OutOfMemory};
 
     ghost from_gives = { λ _ fault. fault ≡ OutOfMemory };
 
-    fn from(_: AllocError) -> ReplayFault {
-        ReplayFault::OutOfMemory
+    fn from(_: AllocError) -> MountFault {
+        MountFault::OutOfMemory
     }
 }
 
 /// Does commands in turn on a new tree, up to the first that it refuses.
-fn replay(alloc: Global, commands: &[Command]) -> Result<PlainTree, ReplayFault>
+fn replay(alloc: Global, commands: &[Command]) -> Result<PlainTree, MountFault>
     requires have_records { All HasRecord commands.now }
     requires few { length commands.now ≤ 4096 }
     ensures tree { IfOk result IsTree }
     ensures done { IfOk result (λ tree. DoesEach nothing_kept commands.now) }
     ensures is { IfOk result (λ tree. tree ≡ (after commands.now nothing_kept).tree) }
-    ensures refused { IfRefused result (IsRefusedAt commands.now) }
+    ensures refused { OnFound result (IsRefusal commands.now) }
+    ensures no_fault { (count : ℕ) → HasMountCause count count result }
 {
     let mut tree = PlainTree::new(alloc)?;
     for (i, command) in commands.iter().enumerate() {
         match tree.step(command)? {
             Reply::Done => {}
-            _ => return Err(ReplayFault::Refused(i as u32)),
+            _ => return Err(MountFault::Found(Finding::BadLog(i as u32))),
         }
     }
     Ok(tree)

@@ -1,12 +1,13 @@
 //! A volume whose tree is made by the records of its log alone.
-ghost use Rattle.std.specs.Prelude.{◌≡◌, ◌≢◌, ◌<◌, ◌≤◌, ◌+◌, ◌↔◌, ℕ, [], slice_get, Some, true, false, IfOk, OnOk, OnErr, IsOk, IsErrOf, IsTrue};
+ghost use Rattle.std.specs.Prelude.{◌≡◌, ◌≢◌, ◌<◌, ◌≤◌, ◌+◌, ◌↔◌, ℕ, [], slice_get, nat_le, Some, true, false, IfOk, OnOk, OnErr, IsOk, IsErrOf, IsTrue};
 ghost use Rattle.vol_numbers.specs.Cause.{HasCause};
 ghost use Rattle.disk_model.specs.Disk.{EachImage};
 ghost use Rattle.disk_model.specs.Past.{Adds};
 ghost use Rattle.root_switch.specs.Current.{selector_block};
 ghost use Rattle.block_format.specs.Root.{root_of, HasGeometry};
+ghost use Rattle.op_log.specs.Record.{record_blocks};
 ghost use Rattle.tree_model.specs.Shape.{IsTree};
-ghost use Rattle.tree_model.specs.Step.{is_plain, is_change};
+ghost use Rattle.tree_model.specs.Step.{step, is_plain, is_change};
 ghost use Rattle.log_volume.specs.Answers.{Legal, accepted, added, unbuilt_reply};
 ghost use Rattle.log_volume.specs.Fits.{Fits, StandsForSome, kept_by};
 ghost use Rattle.log_volume.specs.Replay.{after};
@@ -20,6 +21,7 @@ use crate::logging::log;
 use crate::{Answer, Stopped};
 use disk_model::{Disk, DiskFault};
 use op_log::record_blocks;
+use block_format::RootBody;
 use plain_tree::PlainTree;
 use root_switch::Current;
 use std::alloc::AllocError;
@@ -129,11 +131,17 @@ impl LogVolume {
         }
         match self.change(disk, command) {
             Ok(answer) => Ok(answer),
-            Err(DiskFault) => {
-                self.is_failed = true;
-                Err(Stopped::Now)
-            }
+            Err(DiskFault) => Err(self.stop()),
         }
+    }
+
+    /// From now on no command is done any more.
+    fn stop(&mut self) -> Stopped
+        ensures now { result ≡ Now }
+        ensures failed { self.new ≡ record self.old { is_failed = true } }
+    {
+        self.is_failed = true;
+        Stopped::Now
     }
 
     /// Answers a command that changes nothing.
@@ -171,11 +179,10 @@ impl LogVolume {
         if let Some(refusal) = self.tree.refusal(command) {
             return Ok(Answer::Reply(Reply::Refused(refusal)));
         }
-        let body = &self.current.body;
-        if record_blocks(command) > body.geometry.log_blocks() - body.log_used {
+        if !has_room(&self.current.body, command) {
             return Ok(Answer::LogFull);
         }
-        if self.tree.step(command).is_err() {
+        if change_tree(&mut self.tree, command).is_err() {
             return Ok(out_of_memory());
         }
         match log(disk, &self.current, command) {
@@ -186,4 +193,24 @@ impl LogVolume {
             Err(fault) => Err(fault),
         }
     }
+}
+
+/// Whether the log has room for the record of a change.
+fn has_room(body: &RootBody, command: &Command) -> bool
+    requires grammar { HasGeometry (root_of body.now) }
+    requires change { is_change command.now ≡ true }
+    ensures { result ≡ nat_le (body.now.log_used + record_blocks command.now) (root_of body.now).layout.log_blocks }
+{
+    record_blocks(command) <= body.geometry.log_blocks() - body.log_used
+}
+
+/// Does a change on a tree, and lets the reply go. Want of memory leaves the tree as it is.
+fn change_tree(tree: &mut PlainTree, command: &Command) -> Result<(), AllocError>
+    requires plain { IsTrue (is_plain command.now) }
+    ensures done { OnOk result (tree.new ≡ (step tree.old command.now).1) }
+    ensures err { OnErr result (tree.new ≡ tree.old) }
+    ensures sound { IsTree tree.old → IsTree tree.new }
+{
+    tree.step(command)?;
+    Ok(())
 }

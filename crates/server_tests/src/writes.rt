@@ -5,7 +5,7 @@ use std::alloc::{AllocError, Global};
 use std::io;
 use std::io::Write;
 use std::test::Fail;
-use wire_ends::StdSink;
+use wire_ends::{Sink, StdSink};
 
 /// Keeps each write, and a bar behind it.
 #[derive(Drop)]
@@ -58,13 +58,18 @@ f 3 a
 |ok
 |";
 
+/// Serves a session with a command of each kind.
+fn serve_each_kind<W: Sink>(alloc: Global, sink: &mut W) -> Result<Status, AllocError> {
+    let mut media = fresh(alloc)?;
+    serve_over(alloc, &mut media, EACH_KIND, sink)
+}
+
 /// Whether each answer comes in a write of its own.
 fn writes_each_answer(alloc: Global) -> Result<bool, AllocError> {
-    let mut media = fresh(alloc)?;
     let mut sink = StdSink::new(Barred {
         got: Vec::new(alloc),
     });
-    let status = serve_over(alloc, &mut media, EACH_KIND, &mut sink)?;
+    let status = serve_each_kind(alloc, &mut sink)?;
     Ok(status == Status::Done && sink.writer().got.as_slice() == EACH_ANSWER)
 }
 

@@ -1,4 +1,4 @@
-use Rattle.std.proofs.Common.{◌≡◌, sym, subst, ap}
+use Rattle.std.proofs.Common.{◌≡◌, refl, sym, subst, ap}
 use Rattle.tree_model.specs.Tree.{Tree}
 use Rattle.tree_model.specs.declared.reply.Reply.{Reply}
 use Rattle.tree_model.specs.Shape.{IsTree}
@@ -16,6 +16,7 @@ returns-in_default c = record {
   done = tt;
   is = tt;
   refused = refused_next c.args.commands.now c.loop-i.i c.index-commands-i.result c.loop-i.tree c.step.new.self c.in_ok-step.field-0 c.loop-i-test.true (there_is _ _ _ c.loop-i-test.true c.index-commands-i.is) c.loop-i.invariant.done c.loop-i.invariant.tree c.in_ok-step.ensures.ok c.in_default.not-Done;
+  no_fault = λ count. refl;
 }
 
 pub loop-i-preserved : goal.loop-i-preserved
