@@ -68,7 +68,7 @@ impl MemDisk {
         }
     }
 
-    /// How many moments its record has.
+    /// How many writes and syncs its record has, which is its clock.
     pub fn moments(&self) -> u64
         ensures { result ≡ (⟦<MemDisk as Disk>⟧.past self.now).clock }
     {
@@ -82,7 +82,7 @@ impl MemDisk {
         self.device.tells_moments()
     }
 
-    /// Begins a new record.
+    /// Forgets the moments up to now, and tells its moments anew. Nothing else changes.
     pub fn begin(&mut self)
         ensures state { ⟦<MemDisk as Disk>⟧.state self.new ≡ ⟦<MemDisk as Disk>⟧.state self.old }
         ensures fixed { ⟦<MemDisk as Disk>⟧.fixed self.new ≡ ⟦<MemDisk as Disk>⟧.fixed self.old }
@@ -95,7 +95,7 @@ impl MemDisk {
         self.device.begin();
     }
 
-    /// Takes the blocks of another disk in the place of its own, and begins a new record. Its plan and its counts go on.
+    /// Takes the blocks of another disk in the place of its own, and tells its moments anew. Its plan and its counts go on.
     pub fn renew(&mut self, fresh: SureDisk)
         ensures state { ⟦<MemDisk as Disk>⟧.state self.new ≡ ⟦<SureDisk as Disk>⟧.state fresh }
         ensures fixed { ⟦<MemDisk as Disk>⟧.fixed self.new ≡ ⟦<SureDisk as Disk>⟧.fixed fresh }
