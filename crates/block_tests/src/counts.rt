@@ -2,10 +2,10 @@
 ghost use Rattle.std.specs.Prelude.{◌≡◌, ◌<◌, length, IfSome};
 ghost use Rattle.vol_numbers.specs.Geometry.{layout_of};
 
+use block_format::{HomeBits, RootBody};
 use count_pairs::CountTable;
 use disk_model::{Disk, DiskFault};
 use mem_disk::MemDisk;
-use block_format::{HomeBits, RootBody};
 use std::alloc::{AllocError, Global};
 use std::test::Fail;
 use vol_numbers::{Block, BlockNo, CallList, Geometry};

@@ -19,9 +19,9 @@ ghost use Rattle.log_volume.specs.declared.answer.Stopped.TheVariants.{Now, Befo
 
 use crate::logging::log;
 use crate::{Answer, Stopped};
+use block_format::RootBody;
 use disk_model::{Disk, DiskFault};
 use op_log::record_blocks;
-use block_format::RootBody;
 use plain_tree::PlainTree;
 use root_switch::Current;
 use std::alloc::AllocError;

@@ -5,10 +5,10 @@ ghost use Rattle.op_log.specs.Log.{blocks_of};
 ghost use Rattle.op_log.specs.Record.{HasRecord};
 
 use crate::acts::{Act, command};
+use block_format::{HomeBits, RootBody, read_root, write_root};
 use disk_model::Disk;
 use mem_disk::MemDisk;
 use op_log::{CommandList, LogFault, append, is_logged, read_all, record_blocks};
-use block_format::{HomeBits, RootBody, read_root, write_root};
 use std::alloc::Global;
 use std::test::Fail;
 use tree_model::Command;
