@@ -3,7 +3,6 @@
 
 mod file_bytes;
 mod node_list;
-mod path_names;
 mod plain_step;
 mod refusals;
 mod tree;

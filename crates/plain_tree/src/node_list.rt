@@ -6,8 +6,8 @@ ghost use Rattle.tree_model.specs.Tree.{node_at, with_node, without, is_director
 ghost use Rattle.tree_model.specs.Step.{walk};
 ghost use Rattle.plain_tree.specs.Places.{place_of, ties_at};
 
-use crate::path_names::{path_order, strip};
 use std::alloc::{AllocError, Global};
+use tree_model::path_names::{path_order, strip};
 use tree_model::{Content, Entry, Kind, NameList, Node, Refusal};
 use vol_numbers::{InoNo, Name};
 

@@ -9,11 +9,11 @@ ghost use Rattle.tree_model.specs.declared.node.Content.TheVariants.{File};
 
 use crate::file_bytes;
 use crate::node_list::{entries_of, entry_count, kind_of, put, take_away, walk, widen};
-use crate::path_names::{copied, joined, parent_names, strip};
 use crate::refusals::{
     OldFile, may_list, may_make, may_read, may_remove, may_rename, may_truncate, may_write,
 };
 use std::alloc::{AllocError, Global};
+use tree_model::path_names::{copied, joined, parent_names, strip};
 use tree_model::{Command, Content, EntryList, NameList, Node, Path, Refusal, Reply};
 use vol_numbers::{ByteList, InoNo, Name};
 

@@ -9,7 +9,7 @@ ghost use Rattle.tree_model.specs.declared.node.Content.TheVariants.{File};
 ghost use Rattle.tree_model.specs.declared.reply.Reply.TheVariants.{Done, Data, Entries};
 
 use crate::node_list::{entry_count, find_node, is_directory, least_unused, walk};
-use crate::path_names::{parent_names, strip};
+use tree_model::path_names::{parent_names, strip};
 use tree_model::{Command, Content, NameList, Node, Path, Refusal};
 use vol_numbers::{InoNo, Name};
 

@@ -10,7 +10,7 @@ ghost use Rattle.root_switch.specs.Switch.{IsCurrent, OldOrNew, IsSwitched, spel
 
 use block_format::{RootBody, write_root};
 use disk_model::{Disk, DiskFault, write_through};
-use vol_numbers::Block;
+use vol_numbers::{Block, BlockNo};
 
 /// Makes a root the current one, in the slot that is not current, and answers that slot. All that was written before is on the disk before
 /// the new root is.
@@ -51,7 +51,15 @@ fn write_other_slot<D: Disk>(disk: &mut D, slot: u32, root: &Block) -> Result<()
     ensures given { D.given disk.new ≡ D.given disk.old }
     ensures cause { HasCause (D.faults disk.old) (D.faults disk.new) result }
 {
-    write_through(disk, 2 - slot, root)
+    write_through(disk, other_slot(slot), root)
+}
+
+/// The block of the slot that is not this one.
+fn other_slot(slot: u32) -> BlockNo
+    requires { slot < 2 }
+    ensures { result ≡ 2 - slot }
+{
+    2 - slot
 }
 
 /// Has the selector of a slot on the disk.

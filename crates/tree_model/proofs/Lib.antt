@@ -5,6 +5,8 @@ pub mod EntryCounts
 pub mod Fronts
 pub mod Lookups
 pub mod Numbers
+mod Orders
+mod Parents
 pub mod Paths
 pub mod RefusalLaws
 pub mod RenameLaws
@@ -13,4 +15,5 @@ pub mod Shapes
 pub mod StepFollows
 pub mod StepShapes
 pub mod StepWidths
+mod Strips
 pub mod TouchLaws

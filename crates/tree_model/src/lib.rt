@@ -5,6 +5,7 @@ mod command;
 mod laws;
 mod node;
 mod path;
+pub mod path_names;
 mod refusal;
 mod reply;
 mod report;

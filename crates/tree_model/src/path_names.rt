@@ -3,9 +3,9 @@ ghost use Rattle.std.specs.Prelude.{◌≡◌, OnOk, IfOk, ◌++◌};
 ghost use Rattle.std.specs.Option.{option_copied};
 ghost use Rattle.tree_model.specs.Path.{path_cmp, parent_of, strip};
 
+use crate::NameList;
 use std::alloc::{AllocError, Global};
 use std::cmp::Ordering;
-use tree_model::NameList;
 use vol_numbers::Name;
 
 /// By the bytes of the names.
