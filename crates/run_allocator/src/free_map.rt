@@ -5,7 +5,7 @@ ghost use Rattle.run_allocator.specs.Runs.{numbers_of, free_area};
 ghost use Rattle.run_allocator.specs.Taken.{taken_runs, AreTaken, left_without};
 ghost use Rattle.run_allocator.specs.declared.free_map.TakeFault.TheVariants.{Short};
 
-use crate::pieces::take_pieces;
+use crate::pieces::{copied, take_pieces};
 use crate::zeros::runs_of_zeros;
 use std::alloc::{AllocError, Global};
 use std::collections::VecDeque;
@@ -16,6 +16,7 @@ use vol_numbers::{CountList, Geometry, Run, RunList};
 /// The free blocks of the area.
 #[derive(Drop)]
 pub struct FreeMap {
+    alloc: Global,
     runs: VecDeque<Run>,
     free: u32,
 }
@@ -59,7 +60,19 @@ impl FreeMap {
     {
         let all = &counts.as_slice()[..g.blocks() as usize];
         let (runs, free) = runs_of_zeros(alloc, all, g.area_start())?;
-        Ok(FreeMap { runs, free })
+        Ok(FreeMap { alloc, runs, free })
+    }
+
+    /// The same free blocks, from which others can be taken.
+    pub fn copy(&self) -> Result<FreeMap, AllocError>
+        ensures { IfOk result (λ m. m ≡ self.now) }
+    {
+        let runs = copied(self.alloc, &self.runs)?;
+        Ok(FreeMap {
+            alloc: self.alloc,
+            runs,
+            free: self.free,
+        })
     }
 
     /// How many blocks are free.
@@ -73,7 +86,7 @@ impl FreeMap {
     ///
     /// Where a run is long enough, the runs up to the lowest such are looked at once. Where none is and the blocks are taken in k runs,
     /// all runs are copied once and looked at at most k + 1 times.
-    pub fn take_run(&mut self, alloc: Global, n: u32) -> Result<RunList, TakeFault>
+    pub fn take_run(&mut self, n: u32) -> Result<RunList, TakeFault>
         requires { 1 ≤ n }
         ensures taken { IfOk result (λ runs. runs ≡ taken_runs self.old n) }
         ensures in_turn { IfOk result (λ runs. AreTaken self.old n runs) }
@@ -86,7 +99,7 @@ impl FreeMap {
         if self.free < n {
             return Err(TakeFault::Short { free: self.free });
         }
-        let taken = take_pieces(alloc, &mut self.runs, n)?;
+        let taken = take_pieces(self.alloc, &mut self.runs, n)?;
         self.free -= n;
         Ok(RunList::from_vec(taken))
     }
