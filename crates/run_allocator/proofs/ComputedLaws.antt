@@ -5,7 +5,7 @@ use Rattle.std.proofs.lemmas.Bool.Decides.{nat_tests}
 use Rattle.vol_numbers.specs.declared.runs.Run.{Run}
 use Rattle.run_allocator.specs.Runs.{numbers_of, outside, AreApart, Ascends}
 use Rattle.run_allocator.specs.Taken.{with_number, runs_of, first_fit, longer, longest, front, step_or, step_taken, AreTaken, done, more, taken_or, taken_in, taken_runs}
-use Rattle.run_allocator.specs.Steps.{take_at, IsPiece}
+use Rattle.run_allocator.specs.Steps.{take_at, IsPiece, IsStep}
 use Rattle.run_allocator.specs.declared.pieces.Piece.{Piece}
 use Rattle.run_allocator.proofs.RunLaws.{apart_lower}
 use Rattle.run_allocator.proofs.ZeroLaws.{with_numbers, with_apart}
@@ -79,29 +79,44 @@ some_runs : (runs : List Run) → 1 ≤ length (numbers_of runs) → 1 ≤ lengt
 some_runs [] le = le
 some_runs (x ∷ xs) le = omega arith
 
+-- the piece is taken of the runs
+step_of : (runs : List Run) (n : ℕ) (p : Piece) → AreApart 1 runs → IsPiece runs n p → IsStep runs n (front p.run p.length) (take_at runs p.index p.length)
+step_of runs n p are piece = cut_is_step runs n p (front p.run p.length) (take_at runs p.index p.length) are piece refl refl
+
+some_step : (runs : List Run) (n : ℕ) → AreApart 1 runs → 1 ≤ n → 1 ≤ length runs → (r : Run) × (left : List Run) × IsStep runs n r left
+some_step runs n are some there = of_piece (some_piece runs n are some there)
+  where
+    of_piece : (p : Piece) × IsPiece runs n p → (r : Run) × (left : List Run) × IsStep runs n r left
+    of_piece (p, piece) = (front p.run p.length, take_at runs p.index p.length, step_of runs n p are piece)
+
+-- a step, and then the steps from what is left
+step_then : (steps free : List ℕ) (n : ℕ) (r : Run) → 0 < n → step_taken n free ≡ Some r → AreTaken (outside free r) (n - r.length) (taken_in steps (outside free r) (n - r.length))
+    → AreTaken free n (taken_or (step_taken n free) (λ q. taken_in steps (outside free q) (n - q.length)))
+step_then steps free n r some is rest =
+    subst (λ (o : Option Run). AreTaken free n (taken_or o (λ q. taken_in steps (outside free q) (n - q.length)))) (sym is)
+    (more free n r (taken_in steps (outside free r) (n - r.length)) some is rest)
+
+none_wanted : (free : List ℕ) (n : ℕ) → 0 ≡ n → AreTaken free n []
+none_wanted free n none = subst (λ (k : ℕ). AreTaken free k []) none (done free)
+
 computed_of_runs : (steps : List ℕ) (runs : List Run) (n : ℕ) → AreApart 1 runs → n ≤ length steps → n ≤ length (numbers_of runs) → AreTaken (numbers_of runs) n (taken_in steps (numbers_of runs) n)
-computed_of_runs [] runs n are few enough =
-    let none : 0 ≡ n = omega (arith, few) in
-    subst (λ (k : ℕ). AreTaken (numbers_of runs) k []) none (done (numbers_of runs))
+computed_of_runs [] runs n are few enough = none_wanted (numbers_of runs) n (omega (arith, few))
 computed_of_runs (x ∷ steps) runs n are few enough = by_test (n == 0) refl (λ left k apart short there. computed_of_runs steps left k apart short there)
   where
     by_test : (t : Bool) → (n == 0) ≡ t
         → ((left : List Run) (k : ℕ) → AreApart 1 left → k ≤ length steps → k ≤ length (numbers_of left) → AreTaken (numbers_of left) k (taken_in steps (numbers_of left) k))
         → AreTaken (numbers_of runs) n (if t then [] else taken_or (step_taken n (numbers_of runs)) (λ q. taken_in steps (outside (numbers_of runs) q) (n - q.length)))
-    by_test true is later =
-        let none : 0 ≡ n = grind (arith, nat_tests, is) in
-        subst (λ (k : ℕ). AreTaken (numbers_of runs) k []) none (done (numbers_of runs))
+    by_test true is later = none_wanted (numbers_of runs) n (let none : 0 ≡ n = grind (arith, nat_tests, is) in none)
     by_test false is later =
         let some : 0 < n = grind (arith, nat_tests, is) in
-        let free = numbers_of runs in
-        let p = some_piece runs n are some (some_runs runs (omega (arith, some, enough))) in
-        let r : Run = front p.0.run p.0.length in
-        let left = take_at runs p.0.index p.0.length in
-        let step = cut_is_step runs n p.0 r left are p.1 refl refl in
-        let rest = later left (n - r.length) step.apart (omega (arith, few, some, step.positive)) (omega (arith, enough, step.fewer, step.at_most)) in
-        let after = subst (λ (bs : List ℕ). AreTaken bs (n - r.length) (taken_in steps bs (n - r.length))) step.rest rest in
-        subst (λ (o : Option Run). AreTaken free n (taken_or o (λ q. taken_in steps (outside free q) (n - q.length)))) (sym step.taken)
-        (more free n r (taken_in steps (outside free r) (n - r.length)) some step.taken after)
+        of_step some (some_step runs n are some (some_runs runs (omega (arith, some, enough))))
+      where
+        of_step : 0 < n → (r : Run) × (left : List Run) × IsStep runs n r left
+            → AreTaken (numbers_of runs) n (taken_or (step_taken n (numbers_of runs)) (λ q. taken_in steps (outside (numbers_of runs) q) (n - q.length)))
+        of_step some (r, left, step) =
+            let rest = later left (n - r.length) step.apart (omega (arith, few, some, step.positive)) (omega (arith, enough, step.fewer, step.at_most)) in
+            step_then steps (numbers_of runs) n r some step.taken
+            (subst (λ (bs : List ℕ). AreTaken bs (n - r.length) (taken_in steps bs (n - r.length))) step.rest rest)
 
 -- ---- the runs of an ascending list
 
