@@ -1,0 +1,5 @@
+pub mod Slots
+pub mod Pages
+pub mod Index
+pub mod Reading
+pub mod Laws
