@@ -1,0 +1,10 @@
+pub mod Cached
+pub mod LegalLaws
+pub mod LineLaws
+pub mod Order
+pub mod PieceLaws
+pub mod PointSpace
+pub mod Selecting
+pub mod SharedPlaces
+pub mod SharingLaws
+pub mod WholeLaws

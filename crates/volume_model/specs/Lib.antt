@@ -1,0 +1,16 @@
+pub mod Places
+pub mod Cache
+pub mod Selection
+pub mod Select
+pub mod Charge
+pub mod Space
+pub mod Machine
+pub mod Done
+pub mod Sharing
+pub mod Lines
+pub mod Point
+pub mod Pieces
+pub mod Legal
+pub mod Short
+pub mod Whole
+pub mod Laws

@@ -1,0 +1,8 @@
+use Rattle.std.proofs.Common.{refl}
+use Rattle.tree_model.specs.Step.{step}
+use Rattle.tree_model.specs.Touched.{places}
+use Rattle.volume_rows.proofs.files.a_point_at_rest.Goals as goal
+
+pub returns : goal.returns
+unfolding step places
+returns c = record { due = refl; first = refl; second = refl; last = refl }

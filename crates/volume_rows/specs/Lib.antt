@@ -1,0 +1,4 @@
+pub mod Setting
+pub mod Sharing
+pub mod Space
+pub mod Files
