@@ -165,6 +165,18 @@ length-take_at (x ∷ xs) (suc i) r n e le =
     let rest = length-take_at xs i r n e le in
     omega (arith, rest, length-append (numbers_from x.first x.length) (numbers_of xs), length-append (numbers_from x.first x.length) (numbers_of (take_at xs i n)))
 
+-- the lowest number of all
+pub lowest_taken : (runs : List Run) (r : Run) → AreApart 1 runs → slice_get runs 0 ≡ Some r → numbers_of runs ≡ r.first ∷ numbers_of (take_at runs 0 1)
+lowest_taken [] r are e = cc
+lowest_taken (x ∷ xs) r are e =
+    let same : x ≡ r = cc in
+    by_length x.length refl are.1 ∙ ap (λ (y : Run). y.first ∷ numbers_of (take_at (x ∷ xs) 0 1)) same
+  where
+    by_length : (n : ℕ) → x.length ≡ n → 1 ≤ n → numbers_of (x ∷ xs) ≡ x.first ∷ numbers_of (take_at (x ∷ xs) 0 1)
+    by_length zero is some = absurd (omega arith)
+    by_length (suc zero) is some = rw is refl
+    by_length (suc (suc n)) is some = rw is refl
+
 -- ---- the steps
 
 -- what is left without a piece

@@ -1,0 +1,4 @@
+pub mod Different
+pub mod Index
+pub mod Laws
+pub mod Rising
