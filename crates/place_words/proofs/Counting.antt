@@ -64,4 +64,4 @@ among_times n (m ∷ ms) among = by (nat_eq m n) among (among_times n ms)
   where
     by : (t : Bool) → (t || is_among ms n) ≡ true → (is_among ms n ≡ true → 1 ≤ times n ms) → 1 ≤ cond t 1 0 + times n ms
     by true e more = omega arith
-    by false e more = more e
+    by false e more = omega (arith, more e)

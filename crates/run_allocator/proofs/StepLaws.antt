@@ -170,12 +170,19 @@ pub lowest_taken : (runs : List Run) (r : Run) → AreApart 1 runs → slice_get
 lowest_taken [] r are e = cc
 lowest_taken (x ∷ xs) r are e =
     let same : x ≡ r = cc in
-    by_length x.length refl are.1 ∙ ap (λ (y : Run). y.first ∷ numbers_of (take_at (x ∷ xs) 0 1)) same
+    by_test (1 == x.length) refl ∙ ap (λ (y : Run). y.first ∷ numbers_of (take_at (x ∷ xs) 0 1)) same
   where
-    by_length : (n : ℕ) → x.length ≡ n → 1 ≤ n → numbers_of (x ∷ xs) ≡ x.first ∷ numbers_of (take_at (x ∷ xs) 0 1)
-    by_length zero is some = absurd (omega arith)
-    by_length (suc zero) is some = rw is refl
-    by_length (suc (suc n)) is some = rw is refl
+    by_test : (t : Bool) → (1 == x.length) ≡ t → numbers_of (x ∷ xs) ≡ x.first ∷ numbers_of (if t then xs else record { first = x.first + 1; length = x.length - 1 } ∷ xs)
+    by_test true is = let one : x.length ≡ 1 = grind (arith, nat_tests, is) in ap (λ (n : ℕ). numbers_from x.first n ++ numbers_of xs) one
+    by_test false is = let more : x.length ≡ suc (x.length - 1) = omega (arith, are.1) in ap (λ (n : ℕ). numbers_from x.first n ++ numbers_of xs) more
+
+pub lowest_positive : (runs : List Run) (r : Run) → AreApart 1 runs → slice_get runs 0 ≡ Some r → 0 < r.first
+lowest_positive [] r are e = cc
+lowest_positive (x ∷ xs) r are e = let same : x ≡ r = cc in subst (λ (y : Run). 0 < y.first) same (omega (arith, are.0))
+
+pub some_runs : (runs : List Run) → 1 ≤ length (numbers_of runs) → 0 < length runs
+some_runs [] some = some
+some_runs (r ∷ rs) some = omega arith
 
 -- ---- the steps
 
