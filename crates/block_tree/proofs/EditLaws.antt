@@ -45,13 +45,15 @@ leaf_edited k (c ∷ cs) old ptrs len is i lt =
 -- a place of a leaf that has no change
 pub changed_elsewhere : (k p : ℕ) (changes : List Change) (old : ℕ → ℕ) → is_among (leaves_of changes) k ≡ false → p / 1024 ≡ k → changed_at changes old p ≡ old p
 changed_elsewhere k p [] old none is = refl
-changed_elsewhere k p (c ∷ cs) old none is = by_test (nat_eq (c.place / 1024) k) refl none
+changed_elsewhere k p (c ∷ cs) old none is =
+    by_test (nat_eq (c.place / 1024) k) refl none (λ rest. changed_elsewhere k p cs (λ q. if q == c.place then c.block else old q) rest is)
   where
-    by_test : (t : Bool) → nat_eq (c.place / 1024) k ≡ t → (t || is_among (leaves_of cs) k) ≡ false → changed_at (c ∷ cs) old p ≡ old p
-    by_test true e none = cc
-    by_test false e none =
+    by_test : (t : Bool) → nat_eq (c.place / 1024) k ≡ t → (t || is_among (leaves_of cs) k) ≡ false
+        → (is_among (leaves_of cs) k ≡ false → changed_at (c ∷ cs) old p ≡ (if p == c.place then c.block else old p)) → changed_at (c ∷ cs) old p ≡ old p
+    by_test true e none later = cc
+    by_test false e none later =
         let other : p ≡ c.place → ⊥ = λ same. (let there : c.place / 1024 ≡ k = omega (arith, same, is) in let t : nat_eq (c.place / 1024) k ≡ true = grind (arith, nat_tests, there) in cc) in
-        changed_elsewhere k p cs (λ q. if q == c.place then c.block else old q) none is ∙ cond_other p c.place c.block (old p) other
+        later none ∙ cond_other p c.place c.block (old p) other
 
 -- a place below the cut, and one past it
 pub kept_below : (cut : ℕ) (old : ℕ → ℕ) (p : ℕ) → p < cut → cut_at cut old p ≡ old p

@@ -12,7 +12,7 @@ use Rattle.block_tree.specs.Notes.{Noted, Stand, Settles, page_blocks, refs, pag
 use Rattle.block_tree.specs.Renewal.{IsNoted}
 
 pub times-append : (b : ℕ) (xs ys : List ℕ) → times b (xs ++ ys) ≡ times b xs + times b ys
-times-append b [] ys = refl
+times-append b [] ys = omega arith
 times-append b (x ∷ xs) ys = omega (arith, times-append b xs ys)
 
 pub refs-append : (b : ℕ) (xs ys : List ℕ) → refs b (xs ++ ys) ≡ refs b xs + refs b ys
@@ -48,6 +48,9 @@ settles_beside {xs = xs} {ys = ys} {zs = zs} {ws = ws} first second = record {
 -- what is dropped and what is added
 pub settles_change : (old new : List ℕ) (m : Noted) → Settles old new m (record m { dropped = m.dropped ++ nonzero old; added = m.added ++ nonzero new })
 settles_change old new m = record { each = λ b. omega (arith, times-append b m.dropped (nonzero old), times-append b m.added (nonzero new)) }
+
+pub noted_change : (old new : List ℕ) (m : Noted) → IsNoted old new m (record m { dropped = m.dropped ++ nonzero old; added = m.added ++ nonzero new })
+noted_change old new m = record { settles = settles_change old new m; pages = refl }
 
 pub noted_more : (xs ys : List ℕ) (i : ℕ) {m n o : Noted} → i < length xs → i < length ys
     → IsNoted (take i xs) (take i ys) m n → IsNoted (get_or xs i 0 ∷ []) (get_or ys i 0 ∷ []) n o → IsNoted (take (i + 1) xs) (take (i + 1) ys) m o

@@ -59,8 +59,9 @@ module _ (read : Blocks) where
     where
       here : List (ℕ × ℕ)
       here = pairs_from place (index_at read p)
+
       by : (t : Bool) → nat_lt k 1024 ≡ t → block_in (leaves_pairs read (place + 1024) ps) ((place + 1024) + (k - 1024)) ≡ get_or (index_at read (get_or ps ((k - 1024) / 1024) 0)) ((k - 1024) % 1024) 0
-        → block_in (pairs_from place (index_at read p) ++ leaves_pairs read (place + 1024) ps) (place + k) ≡ get_or (index_at read (get_or (p ∷ ps) (k / 1024) 0)) (k % 1024) 0
+          → block_in (pairs_from place (index_at read p) ++ leaves_pairs read (place + 1024) ps) (place + k) ≡ get_or (index_at read (get_or (p ∷ ps) (k / 1024) 0)) (k % 1024) 0
       by true is more =
           let lt : k < 1024 = grind (arith, nat_tests) in
           let group : k / 1024 ≡ 0 = omega (arith, lt) in

@@ -53,26 +53,26 @@ HasPointer read b = list_all (λ p. p == 0) (index_at read b) ≡ false
 
 all_zero : (ps : List ℕ) → list_all (λ p. p == 0) ps ≡ false → nonzero ps ≢ []
 all_zero [] some none = cc
-all_zero (p ∷ ps) some none = by_test (p == 0) some none
+all_zero (p ∷ ps) some none = by_test (p == 0) some none (all_zero ps)
   where
-    by_test : (t : Bool) → (t && list_all (λ q. q == 0) ps) ≡ false → cond (not t) (p ∷ nonzero ps) (nonzero ps) ≡ [] → ⊥
-    by_test true some none = all_zero ps some none
-    by_test false some none = cc
+    by_test : (t : Bool) → (t && list_all (λ q. q == 0) ps) ≡ false → cond (not t) (p ∷ nonzero ps) (nonzero ps) ≡ [] → (list_all (λ q. q == 0) ps ≡ false → nonzero ps ≢ []) → ⊥
+    by_test true some none rest = rest some none
+    by_test false some none rest = cc
 
 not_all_zero : (ps : List ℕ) → nonzero ps ≢ [] → list_all (λ p. p == 0) ps ≡ false
 not_all_zero [] some = absurd (some refl)
-not_all_zero (p ∷ ps) some = by_test (p == 0) some
+not_all_zero (p ∷ ps) some = by_test (p == 0) some (not_all_zero ps)
   where
-    by_test : (t : Bool) → (cond (not t) (p ∷ nonzero ps) (nonzero ps) ≡ [] → ⊥) → (t && list_all (λ q. q == 0) ps) ≡ false
-    by_test true some = not_all_zero ps some
-    by_test false some = refl
+    by_test : (t : Bool) → (cond (not t) (p ∷ nonzero ps) (nonzero ps) ≡ [] → ⊥) → (nonzero ps ≢ [] → list_all (λ q. q == 0) ps ≡ false) → (t && list_all (λ q. q == 0) ps) ≡ false
+    by_test true some rest = rest some
+    by_test false some rest = refl
 
 pub parts_full : (read : Blocks) (height ptr : ℕ) → IsFull read (indexes_below read height ptr) → FullUnder read height ptr
 parts_full read zero ptr all = tt
-parts_full read (suc zero) ptr all some = all_zero (index_at read ptr) (from_nonzero (HasPointer read) (ptr ∷ []) all 0 some)
+parts_full read (suc zero) ptr all = λ some. all_zero (index_at read ptr) (from_nonzero (HasPointer read) (ptr ∷ []) all 0 some)
 parts_full read (suc (suc height)) ptr all = (
   λ some. all_zero (index_at read ptr) (from_nonzero (HasPointer read) (ptr ∷ index_at read ptr) all 0 some),
-  λ j some. all_zero _ (from_nonzero (HasPointer read) (ptr ∷ index_at read ptr) all (suc j) some),
+  λ j some. all_zero (index_at read (slice_index (index_at read ptr) j)) (from_nonzero (HasPointer read) (ptr ∷ index_at read ptr) all (suc j) some),
 )
 
 pub whole_full : (read : Blocks) (height ptr : ℕ) → FullUnder read height ptr → IsFull read (indexes_below read height ptr)
@@ -86,7 +86,7 @@ whole_full read (suc (suc height)) ptr full = to_nonzero (HasPointer read) (ptr 
   where
     each : (j : ℕ) → 0 < slice_index (ptr ∷ index_at read ptr) j → HasPointer read (slice_index (ptr ∷ index_at read ptr) j)
     each zero some = not_all_zero (index_at read ptr) (full.0 some)
-    each (suc j) some = not_all_zero _ (full.1 j some)
+    each (suc j) some = not_all_zero (index_at read (slice_index (index_at read ptr) j)) (full.1 j some)
 
 -- ---- pointers as a list
 

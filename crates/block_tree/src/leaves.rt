@@ -117,7 +117,8 @@ pub(crate) fn rewrite_first<D: Disk>(
     ensures cause { HasTreeCause (D.faults disk.old) (D.faults disk.new) result }
 {
     if root.height > 0 {
-        return rewrite_one(disk, g, leaf, 0, cut_to, changes, false, free, notes);
+        let kept = rewrite_one(disk, g, leaf, 0, cut_to, changes, false, free, notes)?;
+        return Ok(kept);
     }
     let was = one_pointer(root.ptr);
     let index = edited(&was, 0, cut_to, changes);

@@ -81,5 +81,6 @@ fn note_one(old: BlockNo, new: BlockNo, notes: &mut Notes) -> Result<(), AllocEr
         return Ok(());
     }
     notes.remove(old)?;
-    notes.add(new)
+    notes.add(new)?;
+    Ok(())
 }

@@ -57,16 +57,7 @@ pub(crate) fn rewrite_leaves<D: Disk>(
 {
     let opened = open_tree(disk, g, root)?;
     let mut leaves = opened.leaves;
-    let first = rewrite_first(
-        disk,
-        g,
-        root,
-        leaves.ptrs[0],
-        cut_to,
-        changes,
-        free,
-        notes,
-    )?;
+    let first = rewrite_first(disk, g, root, leaves.ptrs[0], cut_to, changes, free, notes)?;
     leaves.ptrs[0] = first;
     let end = end_of(root.height, height);
     let over = height < 2;

@@ -6,6 +6,11 @@ use Rattle.block_tree.proofs.LeafLaws.{first_made, first_kept}
 use Rattle.block_tree.proofs.OpeningLaws.{one_same, first_moved, first_there}
 use Rattle.block_tree.proofs.leaves.rewrite_first.Goals as goal
 
+pub returns-then-root-gt0-clause-rewritten : goal.returns-then-root-gt0-clause-rewritten
+returns-then-root-gt0-clause-rewritten g c tells =
+    let read = blocks_in (g.D.Disk.state c.args.disk.now).contents in
+    rw (first_there read c.args.root.now c.args.leaf (omega (arith, c.if-root-gt0.true))) (first_kept c.args.leaf (c.in_ok-kept.ensures.rewritten tells))
+
 pub returns-clause-rewritten : goal.returns-clause-rewritten
 returns-clause-rewritten g c tells =
     let read = blocks_in (g.D.Disk.state c.args.disk.now).contents in

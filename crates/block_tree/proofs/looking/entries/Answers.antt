@@ -1,5 +1,8 @@
 use Rattle.std.proofs.Common.{◌≡◌, ◌∙◌, ap, sym, subst, List, ℕ, arith}
 use Rattle.block_format.specs.Words.{words}
+use Rattle.block_format.specs.Index.{SpellsIndex}
+use Rattle.disk_model.specs.Disk.{State}
+use Rattle.vol_numbers.specs.declared.block.Block.{Block}
 use Rattle.vol_numbers.specs.Geometry.{layout_of}
 use Rattle.block_tree.specs.Parts.{SameEntries}
 use Rattle.block_tree.specs.Tree.{index_at, blocks_in}
@@ -24,3 +27,15 @@ returns-in-Some-clause-entries g c tells =
 
 pub returns-in-Some-clause-hole : goal.returns-in-Some-clause-hole
 returns-in-Some-clause-hole g c is = absurd (c.if-at-eq0.false is)
+
+pub returns-in-None-clause-damaged : goal.returns-in-None-clause-damaged
+returns-in-None-clause-damaged g c =
+    let given = c.in_default.ensures.given in
+    record {
+      number = given.number;
+      rose = omega (arith, given.counted);
+      outside = λ ptrs spells. c.in-None.ensures.none ptrs (subst (λ (b : Block). SpellsIndex (layout_of c.args.g.now) ptrs b.bytes) given.bytes spells);
+      stands = λ tells.
+          ap (λ (s : State). blocks_in s.contents c.args.at) (c.in_default.ensures.same tells)
+          ∙ (block_read (g.D.Disk.state c.args.disk.now).contents c.args.at c.read_block.new.into (c.in_default.ensures.read tells) ∙ ap (λ (b : Block). b.bytes) (sym given.bytes));
+    }

@@ -1,5 +1,6 @@
 use Rattle.std.proofs.Common.{◌≡◌, ◌∙◌, ℕ, List, ap, subst, sym, arith}
 use Rattle.block_format.specs.Inode.{blocks_of, height_of}
+use Rattle.vol_numbers.specs.declared.runs.Change.{Change}
 use Rattle.place_words.specs.Different.{times}
 use Rattle.block_tree.specs.Tree.{Blocks, blocks_in, IsFull}
 use Rattle.block_tree.specs.Root.{tree_indexes}
@@ -14,7 +15,8 @@ returns-clause-map g c tells after stand stays p lt =
     let is = c.into_rewritten.ensures in
     let read = blocks_in (g.D.Disk.state c.args.disk.now).contents in
     let root = c.args.root.now in
-    let made = subst (λ (w : Rewritten). IsTreeRewritten read root c.args.changes.now c.args.cut_to w.root c.new-notes.result c.rewrite_tree.new.notes) (sym is) (c.in_ok-root.ensures.rewritten tells) in
+    let told = subst (λ (cs : List Change). IsTreeRewritten read root cs c.args.cut_to c.in_ok-root.root c.new-notes.result c.rewrite_tree.new.notes) c.as_slice.ensures (c.in_ok-root.ensures.rewritten tells) in
+    let made = subst (λ (w : Rewritten). IsTreeRewritten read root c.args.changes.now c.args.cut_to w.root c.new-notes.result c.rewrite_tree.new.notes) (sym is) told in
     made.places after (subst (λ (w : Rewritten). Stand w.pages after) is stand) (parts_stay read after root.height root.ptr stays) p lt
 
 pub returns-clause-pointers : goal.returns-clause-pointers
@@ -23,7 +25,8 @@ returns-clause-pointers g c tells after stand stays b =
     let read = blocks_in (g.D.Disk.state c.args.disk.now).contents in
     let root = c.args.root.now in
     let new = c.into_rewritten.result.root in
-    let made = subst (λ (w : Rewritten). IsTreeRewritten read root c.args.changes.now c.args.cut_to w.root c.new-notes.result c.rewrite_tree.new.notes) (sym is) (c.in_ok-root.ensures.rewritten tells) in
+    let told = subst (λ (cs : List Change). IsTreeRewritten read root cs c.args.cut_to c.in_ok-root.root c.new-notes.result c.rewrite_tree.new.notes) c.as_slice.ensures (c.in_ok-root.ensures.rewritten tells) in
+    let made = subst (λ (w : Rewritten). IsTreeRewritten read root c.args.changes.now c.args.cut_to w.root c.new-notes.result c.rewrite_tree.new.notes) (sym is) told in
     let s = (made.settles after (subst (λ (w : Rewritten). Stand w.pages after) is stand) (parts_stay read after root.height root.ptr stays)).each b in
     omega (
       arith,
@@ -41,7 +44,8 @@ returns-clause-indexes g c tells after stand stays b =
     let is = c.into_rewritten.ensures in
     let read = blocks_in (g.D.Disk.state c.args.disk.now).contents in
     let root = c.args.root.now in
-    let made = subst (λ (w : Rewritten). IsTreeRewritten read root c.args.changes.now c.args.cut_to w.root c.new-notes.result c.rewrite_tree.new.notes) (sym is) (c.in_ok-root.ensures.rewritten tells) in
+    let told = subst (λ (cs : List Change). IsTreeRewritten read root cs c.args.cut_to c.in_ok-root.root c.new-notes.result c.rewrite_tree.new.notes) c.as_slice.ensures (c.in_ok-root.ensures.rewritten tells) in
+    let made = subst (λ (w : Rewritten). IsTreeRewritten read root c.args.changes.now c.args.cut_to w.root c.new-notes.result c.rewrite_tree.new.notes) (sym is) told in
     omega (
       arith,
       made.indexes after (subst (λ (w : Rewritten). Stand w.pages after) is stand) (parts_stay read after root.height root.ptr stays) b,
@@ -54,7 +58,8 @@ returns-clause-full g c tells after stand stays was_full =
     let read = blocks_in (g.D.Disk.state c.args.disk.now).contents in
     let root = c.args.root.now in
     let new = c.into_rewritten.result.root in
-    let made = subst (λ (w : Rewritten). IsTreeRewritten read root c.args.changes.now c.args.cut_to w.root c.new-notes.result c.rewrite_tree.new.notes) (sym is) (c.in_ok-root.ensures.rewritten tells) in
+    let told = subst (λ (cs : List Change). IsTreeRewritten read root cs c.args.cut_to c.in_ok-root.root c.new-notes.result c.rewrite_tree.new.notes) c.as_slice.ensures (c.in_ok-root.ensures.rewritten tells) in
+    let made = subst (λ (w : Rewritten). IsTreeRewritten read root c.args.changes.now c.args.cut_to w.root c.new-notes.result c.rewrite_tree.new.notes) (sym is) told in
     whole_full after new.height new.ptr
     (made.full after (subst (λ (w : Rewritten). Stand w.pages after) is stand) (parts_stay read after root.height root.ptr stays) (parts_full read root.height root.ptr was_full))
 
@@ -64,7 +69,8 @@ returns-clause-count g c tells after stand stays was_full =
     let read = blocks_in (g.D.Disk.state c.args.disk.now).contents in
     let root = c.args.root.now in
     let new = c.into_rewritten.result.root in
-    let made = subst (λ (w : Rewritten). IsTreeRewritten read root c.args.changes.now c.args.cut_to w.root c.new-notes.result c.rewrite_tree.new.notes) (sym is) (c.in_ok-root.ensures.rewritten tells) in
+    let told = subst (λ (cs : List Change). IsTreeRewritten read root cs c.args.cut_to c.in_ok-root.root c.new-notes.result c.rewrite_tree.new.notes) c.as_slice.ensures (c.in_ok-root.ensures.rewritten tells) in
+    let made = subst (λ (w : Rewritten). IsTreeRewritten read root c.args.changes.now c.args.cut_to w.root c.new-notes.result c.rewrite_tree.new.notes) (sym is) told in
     let full : IsFull after (tree_indexes after new) =
     whole_full after new.height new.ptr
     (made.full after (subst (λ (w : Rewritten). Stand w.pages after) is stand) (parts_stay read after root.height root.ptr stays) (parts_full read root.height root.ptr was_full)) in

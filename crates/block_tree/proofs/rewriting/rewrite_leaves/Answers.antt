@@ -7,6 +7,7 @@ use Rattle.disk_model.specs.Disk.{State}
 use Rattle.block_tree.specs.Tree.{blocks_in}
 use Rattle.block_tree.specs.Leaf.{AreLeavesRewritten, IsFirstRewritten}
 use Rattle.block_tree.specs.Opened.{first_of}
+use Rattle.block_tree.proofs.RoomLaws.{whole_room}
 use Rattle.block_tree.proofs.LeafLaws.{takes_then}
 use Rattle.block_tree.proofs.ClosingLaws.{leaves_done, emptied_leaf, low_power}
 use Rattle.block_tree.proofs.rewriting.rewrite_leaves.Goals as goal
@@ -15,6 +16,9 @@ pub rewrite_rest-requires-clause-leaves : goal.rewrite_rest-requires-clause-leav
 rewrite_rest-requires-clause-leaves g c j some lt =
     subst (λ (t : ℕ). IsPointer (layout_of c.args.g.now) t) (sym (get_or-set_other c.in_ok-opened.opened.leaves.ptrs 0 j c.in_ok-first.first 0 (λ e. omega (arith, e, some))))
     (c.in_ok-opened.ensures.leaves j 0 (omega (arith, lt)))
+
+pub rewrite_rest-requires-clause-free : goal.rewrite_rest-requires-clause-free
+rewrite_rest-requires-clause-free g c = omega (arith, whole_room c.args.changes.now c.args.cut_to c.end_of-end.result, c.in_ok-first.ensures.room, c.requires.free)
 
 pub returns-clause-leaves : goal.returns-clause-leaves
 returns-clause-leaves g c tells =

@@ -14,6 +14,7 @@ use Rattle.place_words.specs.Different.{times}
 use Rattle.vol_numbers.specs.declared.runs.Page.{Page}
 use Rattle.block_tree.specs.Leaf.{AreLeavesRewritten}
 use Rattle.block_tree.specs.Edit.{IsEmptied}
+use Rattle.block_tree.proofs.RoomLaws.{rest_room}
 use Rattle.block_tree.proofs.NoteLaws.{settles_beside}
 use Rattle.block_tree.proofs.LeafLaws.{takes_pages, stand_same}
 use Rattle.block_tree.proofs.ClosingLaws.{block_settles, block_indexes, tree_block, settles_remove, emptied_leaf}
@@ -23,6 +24,9 @@ pub rewrite_rest-requires-clause-leaves : goal.rewrite_rest-requires-clause-leav
 rewrite_rest-requires-clause-leaves g c j some lt =
     subst (λ (t : ℕ). IsPointer (layout_of c.args.g.now) t) (sym (get_or-set_other c.in_ok-opened.opened.leaves.ptrs 0 j 0 0 (λ e. omega (arith, e, some))))
     (c.in_ok-opened.ensures.leaves j 0 (omega (arith, lt)))
+
+pub rewrite_rest-requires-clause-free : goal.rewrite_rest-requires-clause-free
+rewrite_rest-requires-clause-free g c = omega (arith, rest_room c.args.changes.now c.args.cut_to c.end_of-end.result, c.requires.free)
 
 pub returns-clause-rewritten : goal.returns-clause-rewritten
 returns-clause-rewritten g c tells =
@@ -46,13 +50,13 @@ returns-clause-rewritten g c tells =
     tree_block (omega arith) (c.edited-index.ensures (block_at read c.args.root.now) opened.first_places) (c.requires.fits tells) c.requires.changes
     (λ after stand stays.
     block_settles opened (omega arith) 0 c.in_ok-rewrite_rest.ensures.takes true c.end_of-end.result c.rewrite_rest.new.leaves.ptrs rest
-    (λ ne. ((c.end_of-end.ensures.low ne).0, emptied)) c.end_of-end.ensures.at_most ptrs tt refl begun emptied removed after
+    (λ ne. ((c.end_of-end.ensures.low ne).0, emptied)) c.end_of-end.ensures.at_most ptrs refl refl begun emptied removed after
     (stand_same c.rewrite_rest.new.notes c.remove-2.new.self after pages stand) stays)
     (λ b.
     omega (
       arith,
       block_indexes opened (omega arith) 0 c.in_ok-rewrite_rest.ensures.takes true c.end_of-end.result c.rewrite_rest.new.leaves.ptrs rest
-      (λ ne. ((c.end_of-end.ensures.low ne).0, emptied)) c.end_of-end.ensures.at_most refl b,
+          (λ ne. ((c.end_of-end.ensures.low ne).0, emptied)) c.end_of-end.ensures.at_most refl b,
       ap (λ (ps : List Page). times b (page_blocks ps)) pages,
       ap (λ (ps : List Page). times b (page_blocks ps)) (c.in_ok-note.ensures.pages ∙ ap (λ (n : Noted). n.pages) c.in_ok-remove.ensures),
     ))

@@ -8,7 +8,7 @@ use Rattle.block_tree.proofs.ClosingLaws.{tree_leaf, tree_top}
 use Rattle.block_tree.proofs.rewriting.rewrite_tree.Goals as goal
 
 low : (height : ℕ) → height ≡ 1 → IsTrue (nat_lt height 2)
-low height e = rw e tt
+low height e = rw e refl
 
 pub returns-then-height-eq1-clause-rewritten : goal.returns-then-height-eq1-clause-rewritten
 returns-then-height-eq1-clause-rewritten g c tells =
