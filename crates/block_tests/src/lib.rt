@@ -9,3 +9,5 @@ mod formats;
 mod roots;
 #[cfg(test)]
 mod runs;
+#[cfg(test)]
+mod trees;

@@ -165,6 +165,25 @@ length-take_at (x ∷ xs) (suc i) r n e le =
     let rest = length-take_at xs i r n e le in
     omega (arith, rest, length-append (numbers_from x.first x.length) (numbers_of xs), length-append (numbers_from x.first x.length) (numbers_of (take_at xs i n)))
 
+-- the lowest number of all
+pub lowest_taken : (runs : List Run) (r : Run) → AreApart 1 runs → slice_get runs 0 ≡ Some r → numbers_of runs ≡ r.first ∷ numbers_of (take_at runs 0 1)
+lowest_taken [] r are e = cc
+lowest_taken (x ∷ xs) r are e =
+    let same : x ≡ r = cc in
+    by_test (1 == x.length) refl ∙ ap (λ (y : Run). y.first ∷ numbers_of (take_at (x ∷ xs) 0 1)) same
+  where
+    by_test : (t : Bool) → (1 == x.length) ≡ t → numbers_of (x ∷ xs) ≡ x.first ∷ numbers_of (if t then xs else record { first = x.first + 1; length = x.length - 1 } ∷ xs)
+    by_test true is = let one : x.length ≡ 1 = grind (arith, nat_tests, is) in ap (λ (n : ℕ). numbers_from x.first n ++ numbers_of xs) one
+    by_test false is = let more : x.length ≡ suc (x.length - 1) = omega (arith, are.1) in ap (λ (n : ℕ). numbers_from x.first n ++ numbers_of xs) more
+
+pub lowest_positive : (runs : List Run) (r : Run) → AreApart 1 runs → slice_get runs 0 ≡ Some r → 0 < r.first
+lowest_positive [] r are e = cc
+lowest_positive (x ∷ xs) r are e = let same : x ≡ r = cc in subst (λ (y : Run). 0 < y.first) same (omega (arith, are.0))
+
+pub some_runs : (runs : List Run) → 1 ≤ length (numbers_of runs) → 0 < length runs
+some_runs [] some = some
+some_runs (r ∷ rs) some = omega arith
+
 -- ---- the steps
 
 -- what is left without a piece

@@ -1,17 +1,17 @@
 //! The free blocks of the area, kept as their runs.
-ghost use Rattle.std.specs.Prelude.{◌≡◌, ◌<◌, ◌≤◌, ◌↔◌, ℕ, length, IfOk, OnErr, IsErrOf};
+ghost use Rattle.std.specs.Prelude.{◌≡◌, ◌<◌, ◌≤◌, ◌↔◌, ◌∷◌, ℕ, length, IfOk, OnErr, IsErrOf};
 ghost use Rattle.vol_numbers.specs.Geometry.{layout_of};
 ghost use Rattle.run_allocator.specs.Runs.{numbers_of, free_area};
 ghost use Rattle.run_allocator.specs.Taken.{taken_runs, AreTaken, left_without};
 ghost use Rattle.run_allocator.specs.declared.free_map.TakeFault.TheVariants.{Short};
 
-use crate::pieces::{copied, take_pieces};
+use crate::pieces::{copied, take_lowest, take_pieces};
 use crate::zeros::runs_of_zeros;
 use std::alloc::{AllocError, Global};
 use std::collections::VecDeque;
 use std::marker::Model;
 use thiserror::Error;
-use vol_numbers::{CountList, Geometry, Run, RunList};
+use vol_numbers::{BlockNo, CountList, Geometry, Run, RunList};
 
 /// The free blocks of the area.
 #[derive(Drop)]
@@ -80,6 +80,27 @@ impl FreeMap {
         ensures { result ≡ length self.now }
     {
         self.free
+    }
+
+    /// The same free blocks.
+    pub fn copy(&self, alloc: Global) -> Result<FreeMap, AllocError>
+        ensures { IfOk result (λ m. m ≡ self.now) }
+    {
+        let runs = copied(alloc, &self.runs)?;
+        Ok(FreeMap {
+            runs,
+            free: self.free,
+        })
+    }
+
+    /// Takes the lowest free block, as the rule takes one block. It takes no memory.
+    pub fn take_one(&mut self) -> BlockNo
+        requires { 1 ≤ length self.old }
+        ensures lowest { self.old ≡ result ∷ self.new }
+        ensures positive { 0 < result }
+    {
+        self.free -= 1;
+        take_lowest(&mut self.runs)
     }
 
     /// Takes n blocks by the rule. One block is taken from the lowest run, without a look at any other.

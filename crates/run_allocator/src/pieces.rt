@@ -1,5 +1,5 @@
 //! Pieces of free runs: which the rule takes, and the taking.
-ghost use Rattle.std.specs.Prelude.{◌≡◌, ◌<◌, ◌≤◌, ◌+◌, ◌-◌, nat_le, nat_lt, length, IfOk, OnErr, List};
+ghost use Rattle.std.specs.Prelude.{◌≡◌, ◌<◌, ◌≤◌, ◌+◌, ◌-◌, ◌∷◌, nat_le, nat_lt, length, IfOk, OnErr, List};
 ghost use Rattle.vol_numbers.specs.declared.runs.Run.{Run};
 ghost use Rattle.run_allocator.specs.Runs.{AreApart, numbers_of};
 ghost use Rattle.run_allocator.specs.Taken.{front};
@@ -7,7 +7,7 @@ ghost use Rattle.run_allocator.specs.Steps.{IsFront, IsPiece, IsStep, AreSteps, 
 
 use std::alloc::{AllocError, Global};
 use std::collections::VecDeque;
-use vol_numbers::Run;
+use vol_numbers::{BlockNo, Run};
 
 /// The lowest blocks of a run: its index among the runs, the run, and how many.
 #[derive(Clone, Copy, Debug, PartialEq, Eq)]
@@ -104,6 +104,24 @@ fn take_piece(runs: &mut VecDeque<Run>, n: u32) -> Run
     let piece = find_piece(runs, n);
     cut(runs, piece);
     piece.blocks()
+}
+
+/// Takes the lowest block of all.
+pub(crate) fn take_lowest(runs: &mut VecDeque<Run>) -> BlockNo
+    requires apart { AreApart 1 runs.old.items }
+    requires some { 1 ≤ length (numbers_of runs.old.items) }
+    ensures lowest { numbers_of runs.old.items ≡ result ∷ numbers_of runs.new.items }
+    ensures positive { 0 < result }
+    ensures apart { AreApart 1 runs.new.items }
+{
+    let run = runs[0];
+    let piece = Piece {
+        index: 0,
+        run,
+        length: 1,
+    };
+    cut(runs, piece);
+    run.first
 }
 
 /// Takes a piece off its run.

@@ -1,0 +1,16 @@
+pub mod ClosingLaws
+pub mod Count
+pub mod EditLaws
+pub mod EntryLaws
+pub mod Groups
+pub mod LeafLaws
+pub mod ListingLaws
+pub mod NoteLaws
+pub mod OpeningLaws
+pub mod Pairs
+pub mod PartLaws
+pub mod RenewalLaws
+pub mod Rise
+pub mod RoomLaws
+pub mod Spell
+pub mod UntouchedLaws

@@ -1,0 +1,12 @@
+pub mod Causes
+pub mod Edit
+pub mod Laws
+pub mod Leaf
+pub mod Notes
+pub mod Opened
+pub mod Parts
+pub mod Planned
+pub mod Renewal
+pub mod Room
+pub mod Root
+pub mod Tree

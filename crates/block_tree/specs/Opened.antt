@@ -1,0 +1,72 @@
+-- A tree as the pointers of its top index, those of the leaf 0, and the other leaves.
+use Rattle.std.specs.Prelude.{◌≡◌, ◌<◌, ◌≤◌, ◌^◌, ℕ, zero, suc, ◌+◌, ◌==◌, if◌then◌else◌, Bool, IsTrue, List, [], ◌∷◌, slice_index, All}
+use Rattle.vol_numbers.specs.declared.runs.Change.{Change}
+use Rattle.place_words.specs.Different.{times}
+use Rattle.block_tree.specs.Tree.{Blocks, index_at, nonzero}
+use Rattle.block_tree.specs.Root.{block_at, tree_indexes}
+use Rattle.block_tree.specs.Parts.{all_pointers, SameEntries}
+use Rattle.block_tree.specs.Edit.{cut_at, changed_at, IsLeafBefore, IsLeafAfter, IsEmptied}
+use Rattle.block_tree.specs.Leaf.{StaysAt, FullAt, level}
+use Rattle.block_tree.specs.Notes.{Noted, Stand, Settles, refs, paged}
+use Rattle.block_tree.specs.declared.root.TreeRoot.{TreeRoot}
+
+-- the index blocks of a tree are there as they were, block by block
+abbrev pub StaysUnder : Blocks → ℕ → ℕ → Blocks → Type 0
+StaysUnder read zero ptr after = Unit {0}
+StaysUnder read (suc zero) ptr after = StaysAt read after ptr
+StaysUnder read (suc (suc height)) ptr after = StaysAt read after ptr × ((j : ℕ) → StaysAt read after (slice_index (index_at read ptr) j))
+
+abbrev pub PartsStay : Blocks → TreeRoot → Blocks → Type 0
+PartsStay read root after = StaysUnder read root.height root.ptr after
+
+-- each index block of a tree has a pointer to a block
+abbrev pub FullUnder : Blocks → ℕ → ℕ → Type 0
+FullUnder read zero ptr = Unit {0}
+FullUnder read (suc zero) ptr = FullAt read ptr
+FullUnder read (suc (suc height)) ptr = FullAt read ptr × ((j : ℕ) → FullAt read (slice_index (index_at read ptr) j))
+
+abbrev pub PartsFull : Blocks → TreeRoot → Type 0
+PartsFull read root = FullUnder read root.height root.ptr
+
+-- No place at or past the height's is kept, and none is changed.
+pub record FitsHeight (read : Blocks) (root : TreeRoot) (cut height : ℕ) : Type 0 where
+  pub kept : (p : ℕ) → 1024 ^ height ≤ p → p < 1048576 → cut_at cut (block_at read root) p ≡ 0
+
+abbrev pub ChangesFit : ℕ → List Change → Type 0
+ChangesFit height changes = All (λ (c : Change). c.place < 1024 ^ height) changes
+
+-- the pointers of the places of leaf 0: that of place 0 alone where there is no leaf
+abbrev pub first_of : Blocks → TreeRoot → ℕ → List ℕ
+first_of read root leaf = if root.height == 0 then root.ptr ∷ [] else index_at read leaf
+
+-- The top index, if there is one, has the pointers `was`; `leaves` are the leaves, 0 where there is none; and `first` are the pointers of the places of leaf 0.
+pub record Opens (read : Blocks) (root : TreeRoot) (top : ℕ) (was leaves first : List ℕ) : Type 0 where
+  pub first_places : IsLeafBefore (block_at read root) 0 first
+  pub rest_places : (j : ℕ) → 1 ≤ j → j < 1024 → IsLeafBefore (block_at read root) j (index_at read (slice_index leaves j))
+  pub top_is : (after : Blocks) → PartsStay read root after → 0 < top → SameEntries (index_at after top) was
+  pub stay : (after : Blocks) → PartsStay read root after → (j : ℕ) → StaysAt read after (slice_index leaves j)
+  pub full : PartsFull read root → (j : ℕ) → FullAt read (slice_index leaves j)
+  -- below height 2 there is no other leaf
+  pub few : root.height < 2 → (j : ℕ) → 1 ≤ j → slice_index leaves j ≡ 0
+  pub pointers : (after : Blocks) → PartsStay read root after → (b : ℕ) →
+      times b (nonzero (all_pointers read root)) + times b (nonzero (index_at after (slice_index leaves 0)))
+      ≡ times b (nonzero (top ∷ [])) + times b (nonzero (level after leaves)) + times b (nonzero first)
+  pub indexes : (b : ℕ) → refs b (top ∷ []) + refs b leaves ≡ times b (tree_indexes read root)
+
+-- The leaves are rewritten, and the top index isn't yet.
+pub record HasLeaves (read : Blocks) (root : TreeRoot) (changes : List Change) (cut : ℕ) (over : Bool) (top : ℕ) (was leaves : List ℕ) (m n : Noted) : Type 0 where
+  pub places : (after : Blocks) → Stand n.pages after → PartsStay read root after → (j : ℕ) → j < 1024 → IsLeafAfter changes cut (block_at read root) j (index_at after (slice_index leaves j))
+  pub settles : (after : Blocks) → Stand n.pages after → PartsStay read root after → Settles (all_pointers read root) (top ∷ level after leaves) m n
+  pub none : IsTrue over → (j : ℕ) → 1 ≤ j → j < 1024 → IsEmptied changes cut (block_at read root) j → slice_index leaves j ≡ 0
+  pub top_is : (after : Blocks) → PartsStay read root after → 0 < top → SameEntries (index_at after top) was
+  pub full : (after : Blocks) → Stand n.pages after → PartsStay read root after → PartsFull read root → (j : ℕ) → FullAt after (slice_index leaves j)
+  pub indexes : (b : ℕ) → refs b (top ∷ []) + refs b leaves + paged b m ≤ times b (tree_indexes read root) + paged b n
+
+-- The tree that is made: in each image in which the pages stand, and the old index blocks as they were, it has the places of the old one after the cut and the changes,
+-- its pointers are those of the old one with those that were added and without those that were dropped, and it is full if the old one is.
+pub record IsTreeRewritten (read : Blocks) (root : TreeRoot) (changes : List Change) (cut : ℕ) (new : TreeRoot) (m n : Noted) : Type 0 where
+  pub places : (after : Blocks) → Stand n.pages after → PartsStay read root after → (p : ℕ) → p < 1048576 → block_at after new p ≡ changed_at changes (cut_at cut (block_at read root)) p
+  pub settles : (after : Blocks) → Stand n.pages after → PartsStay read root after → Settles (all_pointers read root) (all_pointers after new) m n
+  pub full : (after : Blocks) → Stand n.pages after → PartsStay read root after → PartsFull read root → PartsFull after new
+  -- each new index block is an old one or a page's
+  pub indexes : (after : Blocks) → Stand n.pages after → PartsStay read root after → (b : ℕ) → times b (tree_indexes after new) + paged b m ≤ times b (tree_indexes read root) + paged b n

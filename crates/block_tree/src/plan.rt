@@ -1,0 +1,101 @@
+//! Plans how a tree is rewritten.
+ghost use Rattle.std.specs.Prelude.{◌≡◌, ◌<◌, ◌≤◌, ◌+◌, ◌++◌, ◌^◌, ℕ, All, length, map, IfOk, OnErr, IsTrue};
+ghost use Rattle.vol_numbers.specs.Geometry.{layout_of};
+ghost use Rattle.vol_numbers.specs.declared.runs.Change.{Change as ChangeOf};
+ghost use Rattle.disk_model.specs.Past.{Adds};
+ghost use Rattle.place_words.specs.Different.{times, different};
+ghost use Rattle.place_words.specs.Index.{index_blocks};
+ghost use Rattle.block_format.specs.Inode.{blocks_of, height_of};
+ghost use Rattle.block_tree.specs.Tree.{Blocks, blocks_in, IsFull};
+ghost use Rattle.block_tree.specs.Root.{block_at, tree_pairs, tree_indexes, tree_pointers, IsRoot, Stays};
+ghost use Rattle.block_tree.specs.Notes.{Stand, page_blocks};
+ghost use Rattle.block_tree.specs.Edit.{cut_at, changed_at, leaves_of};
+ghost use Rattle.block_tree.specs.Causes.{HasTreeCause, IsTreeDamage};
+
+use crate::notes::Notes;
+use crate::rewriting::rewrite_tree;
+use crate::{TreeFault, TreeRoot};
+use block_format::{blocks_of, height_of, heights_are_least};
+use disk_model::Disk;
+use run_allocator::FreeMap;
+use std::alloc::Global;
+use vol_numbers::{ChangeList, Fbn, Geometry, PageList, PointerList};
+
+/// A tree that is to be written: its root, the index blocks that are written afresh, and the pointers that come and go.
+#[derive(Drop)]
+pub struct Rewritten {
+    pub root: TreeRoot,
+    pub pages: PageList,
+    pub added: PointerList,
+    pub dropped: PointerList,
+}
+
+/// Plans the tree of a node of a size, from an old tree whose places from `cut_to` on are dropped and in which the changes are made then. It writes nothing.
+pub fn rewrite<D: Disk>(
+    alloc: Global,
+    disk: &mut D,
+    g: &Geometry,
+    root: &TreeRoot,
+    cut_to: Fbn,
+    changes: &ChangeList,
+    size: u64,
+    free: &mut FreeMap,
+) -> Result<Rewritten, TreeFault>
+    requires volume { (layout_of g.now).blocks ≡ (D.fixed disk.old).size }
+    requires root { IsRoot (layout_of g.now) root.now }
+    requires size { size ≤ 4294967296 }
+    requires changes { All (λ (c : ChangeOf). c.place < blocks_of size) changes.now }
+    requires kept { IsTrue D.tells → (p : ℕ) → p < cut_to → blocks_of size ≤ p → p < 1048576 → block_at (blocks_in (D.state disk.old).contents) root.now p ≡ 0 }
+    requires free { different (leaves_of changes.now) + 3 ≤ length free.old }
+    // In each image in which the pages stand, and the old index blocks as they were, the tree has these places and pointers.
+    ensures map { IfOk result (λ w. IsTrue D.tells → (after : Blocks) → Stand w.pages after → Stays (blocks_in (D.state disk.old).contents) root.now after
+        → (p : ℕ) → p < 1048576 → block_at after w.root p ≡ changed_at changes.now (cut_at cut_to (block_at (blocks_in (D.state disk.old).contents) root.now)) p) }
+    ensures pointers { IfOk result (λ w. IsTrue D.tells → (after : Blocks) → Stand w.pages after → Stays (blocks_in (D.state disk.old).contents) root.now after
+        → (b : ℕ) → times b (tree_pointers (blocks_in (D.state disk.old).contents) root.now) + times b w.added ≡ times b (tree_pointers after w.root) + times b w.dropped) }
+    // Where each index block of the old tree has a pointer to a block, so has each of the new one,
+    ensures full { IfOk result (λ w. IsTrue D.tells → (after : Blocks) → Stand w.pages after → Stays (blocks_in (D.state disk.old).contents) root.now after
+        → IsFull (blocks_in (D.state disk.old).contents) (tree_indexes (blocks_in (D.state disk.old).contents) root.now) → IsFull after (tree_indexes after w.root)) }
+    // and its pointers are as many as its places that have a block and the index blocks that these need.
+    ensures count { IfOk result (λ w. IsTrue D.tells → (after : Blocks) → Stand w.pages after → Stays (blocks_in (D.state disk.old).contents) root.now after
+        → IsFull (blocks_in (D.state disk.old).contents) (tree_indexes (blocks_in (D.state disk.old).contents) root.now)
+        → length (tree_pointers after w.root) ≡ length (tree_pairs after w.root) + index_blocks (blocks_of size) (map (λ e. e.0) (tree_pairs after w.root))) }
+    // Each of its index blocks is one of the old tree or a page's.
+    ensures indexes { IfOk result (λ w. IsTrue D.tells → (after : Blocks) → Stand w.pages after → Stays (blocks_in (D.state disk.old).contents) root.now after
+        → (b : ℕ) → times b (tree_indexes after w.root) ≤ times b (tree_indexes (blocks_in (D.state disk.old).contents) root.now) + times b (page_blocks w.pages)) }
+    ensures taken { IfOk result (λ w. page_blocks w.pages ++ free.new ≡ free.old) }
+    ensures height { IfOk result (λ w. w.root.height ≡ height_of (blocks_of size)) }
+    ensures unchanged { OnErr result (free.new ≡ free.old) }
+    ensures damaged { IsTreeDamage (layout_of g.now) D.tells (blocks_in (D.state disk.new).contents) (D.given disk.old) (D.given disk.new) result }
+    ensures same { IsTrue D.tells → D.state disk.new ≡ D.state disk.old }
+    ensures moments { IsTrue D.tells → Adds (D.past disk.old) (D.past disk.new) (λ s. s ≡ D.state disk.old) }
+    ensures fixed { D.fixed disk.new ≡ D.fixed disk.old }
+    ensures cause { HasTreeCause (D.faults disk.old) (D.faults disk.new) result }
+{
+    let mut trial = free.copy(alloc)?;
+    let mut notes = Notes::new(alloc);
+    let height = height_for(size);
+    let root = rewrite_tree(
+        disk,
+        g,
+        root,
+        cut_to,
+        changes.as_slice(),
+        height,
+        &mut trial,
+        &mut notes,
+    )?;
+    *free = trial;
+    Ok(notes.into_rewritten(root))
+}
+
+/// The height of a tree of so many bytes.
+fn height_for(size: u64) -> u32
+    requires { size ≤ 4294967296 }
+    ensures is { result ≡ height_of (blocks_of size) }
+    ensures at_most { result ≤ 2 }
+    ensures covers { blocks_of size ≤ 1024 ^ result }
+{
+    let blocks = blocks_of(size);
+    heights_are_least(blocks);
+    height_of(blocks)
+}
