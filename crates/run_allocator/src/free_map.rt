@@ -82,17 +82,6 @@ impl FreeMap {
         self.free
     }
 
-    /// The same free blocks.
-    pub fn copy(&self, alloc: Global) -> Result<FreeMap, AllocError>
-        ensures { IfOk result (λ m. m ≡ self.now) }
-    {
-        let runs = copied(alloc, &self.runs)?;
-        Ok(FreeMap {
-            runs,
-            free: self.free,
-        })
-    }
-
     /// Takes the lowest free block, as the rule takes one block. It takes no memory.
     pub fn take_one(&mut self) -> BlockNo
         requires { 1 ≤ length self.old }

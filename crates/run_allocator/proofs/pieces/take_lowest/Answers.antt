@@ -1,6 +1,4 @@
-use Rattle.std.proofs.Common.{◌≡◌, ◌<◌, length, subst, sym, arith}
-use Rattle.vol_numbers.specs.declared.runs.Run.{Run}
-use Rattle.run_allocator.specs.Runs.{AreApart}
+use Rattle.std.proofs.Common.{arith}
 use Rattle.run_allocator.proofs.SearchLaws.{read_there}
 use Rattle.run_allocator.proofs.StepLaws.{apart_at, front_taken, lowest_taken, lowest_positive, some_runs}
 use Rattle.run_allocator.proofs.pieces.take_lowest.Goals as goal
