@@ -75,34 +75,43 @@ fn are_these(runs: &[Run], want: &[(u32, u32)]) -> bool {
 }
 
 /// Whether the row's blocks are taken as its runs.
-fn takes(alloc: Global, free: &mut FreeMap, row: &Row) -> bool {
+fn takes(free: &mut FreeMap, row: &Row) -> bool {
     if row.0 == 0 {
         return false;
     }
-    match free.take_run(alloc, row.0) {
+    match free.take_run(row.0) {
         Ok(runs) => are_these(runs.as_slice(), row.1) && free.free() == row.2,
         Err(_) => false,
     }
 }
 
+/// Whether the same is taken of a copy.
+fn copy_takes(free: &FreeMap, row: &Row) -> bool {
+    match free.copy() {
+        Ok(mut copy) => takes(&mut copy, row),
+        Err(_) => false,
+    }
+}
+
 /// Whether more than are free are refused as too few, twice in turn.
-fn is_short(alloc: Global, free: &mut FreeMap, n: u32, want: u32) -> bool {
+fn is_short(free: &mut FreeMap, n: u32, want: u32) -> bool {
     if n == 0 {
         return false;
     }
-    match free.take_run(alloc, n) {
+    match free.take_run(n) {
         Ok(_) => false,
         Err(fault) => fault == TakeFault::Short { free: want },
     }
 }
 
-/// Whether each row holds of a fresh set, after more than it has were asked for.
+/// Whether each row holds of a fresh set, after more than it has were asked for and the row's blocks were taken of a copy.
 fn take_fresh(alloc: Global, zeros: &[u32], rows: &[Row], all: u32) -> Result<bool, Fail> {
     for row in rows {
         let holds = match free_of(alloc, zeros)? {
             Some(mut free) => free.free() == all
-                && is_short(alloc, &mut free, all.saturating_add(1), all)
-                && takes(alloc, &mut free, row),
+                && is_short(&mut free, all.saturating_add(1), all)
+                && copy_takes(&free, row)
+                && takes(&mut free, row),
             None => false,
         };
         if !holds {
@@ -112,19 +121,19 @@ fn take_fresh(alloc: Global, zeros: &[u32], rows: &[Row], all: u32) -> Result<bo
     Ok(true)
 }
 
-fn take_all(alloc: Global, free: &mut FreeMap, rows: &[Row]) -> bool {
+fn take_all(free: &mut FreeMap, rows: &[Row]) -> bool {
     for row in rows {
-        if !takes(alloc, free, row) {
+        if !takes(free, row) {
             return false;
         }
     }
-    is_short(alloc, free, 1, 0)
+    is_short(free, 1, 0)
 }
 
 /// Whether the rows hold one after the other, and then nothing is left.
 fn take_in_turn(alloc: Global, zeros: &[u32], rows: &[Row]) -> Result<bool, Fail> {
     match free_of(alloc, zeros)? {
-        Some(mut free) => Ok(take_all(alloc, &mut free, rows)),
+        Some(mut free) => Ok(take_all(&mut free, rows)),
         None => Ok(false),
     }
 }

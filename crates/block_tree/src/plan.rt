@@ -73,7 +73,7 @@ pub fn rewrite<D: Disk>(
     ensures fixed { D.fixed disk.new ≡ D.fixed disk.old }
     ensures cause { HasTreeCause (D.faults disk.old) (D.faults disk.new) result }
 {
-    let mut trial = free.copy(alloc)?;
+    let mut trial = free.copy()?;
     let mut notes = Notes::new(alloc);
     let height = height_for(size);
     let root = rewrite_tree(

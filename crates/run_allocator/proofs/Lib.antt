@@ -3,3 +3,4 @@ pub mod StepLaws
 pub mod SearchLaws
 pub mod RuleLaws
 pub mod ZeroLaws
+pub mod ComputedLaws

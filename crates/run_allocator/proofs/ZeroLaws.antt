@@ -39,10 +39,10 @@ zeros_more cs b d some within =
     at_drop_more (zeros_from (b - 1)) cs (b - 1) d (omega (arith, some, within))
     ∙ ap (λ (k : ℕ). if get_or cs (b - 1) d == 0 then (b - 1) ∷ zeros_from k (drop k cs) else zeros_from k (drop k cs)) e
 
-pub zero_there : (cs : List ℕ) (b d : ℕ) → 0 < b → b ≤ length cs → get_or cs (b - 1) d ≡ 0 → zeros_from (b - 1) (drop (b - 1) cs) ≡ (b - 1) ∷ zeros_from b (drop b cs)
+pub zero_there : (cs : List ℕ) (b d : ℕ) → 0 < b → b ≤ length cs → (get_or cs (b - 1) d == 0) ≡ true → zeros_from (b - 1) (drop (b - 1) cs) ≡ (b - 1) ∷ zeros_from b (drop b cs)
 zero_there cs b d some within is = zeros_more cs b d some within
-    ∙ ap (λ (t : Bool). if t then (b - 1) ∷ zeros_from b (drop b cs) else zeros_from b (drop b cs)) (let t : (get_or cs (b - 1) d == 0) ≡ true = grind (arith, nat_tests, is) in t)
+    ∙ ap (λ (t : Bool). if t then (b - 1) ∷ zeros_from b (drop b cs) else zeros_from b (drop b cs)) is
 
-pub none_there : (cs : List ℕ) (b d : ℕ) → 0 < b → b ≤ length cs → (get_or cs (b - 1) d ≡ 0 → ⊥) → zeros_from (b - 1) (drop (b - 1) cs) ≡ zeros_from b (drop b cs)
+pub none_there : (cs : List ℕ) (b d : ℕ) → 0 < b → b ≤ length cs → (get_or cs (b - 1) d == 0) ≡ false → zeros_from (b - 1) (drop (b - 1) cs) ≡ zeros_from b (drop b cs)
 none_there cs b d some within not = zeros_more cs b d some within
-    ∙ ap (λ (t : Bool). if t then (b - 1) ∷ zeros_from b (drop b cs) else zeros_from b (drop b cs)) (let t : (get_or cs (b - 1) d == 0) ≡ false = grind (arith, nat_tests, not) in t)
+    ∙ ap (λ (t : Bool). if t then (b - 1) ∷ zeros_from b (drop b cs) else zeros_from b (drop b cs)) not

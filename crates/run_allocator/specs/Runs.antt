@@ -1,7 +1,12 @@
 -- Sets of block numbers, as ascending lists and as runs.
-use Rattle.std.specs.Prelude.{◌≤◌, ℕ, zero, suc, ◌+◌, ◌==◌, ◌&&◌, nat_le, nat_lt, not, Bool, if◌then◌else◌, List, [], ◌∷◌, ◌++◌, filter, drop, take}
+use Rattle.std.specs.Prelude.{◌≤◌, ◌<◌, ℕ, zero, suc, ◌+◌, ◌==◌, ◌&&◌, nat_le, nat_lt, not, Bool, if◌then◌else◌, List, [], ◌∷◌, ◌++◌, filter, drop, take}
 use Rattle.vol_numbers.specs.declared.runs.Run.{Run}
 use Rattle.vol_numbers.specs.Layout.{Layout, area_start}
+
+-- Ascending numbers of blocks from a number on, within the greatest volume.
+abbrev pub Ascends : ℕ → List ℕ → Type 0
+Ascends least [] = Unit {0}
+Ascends least (b ∷ bs) = (least ≤ b) × (b < 65536) × Ascends (b + 1) bs
 
 -- so many numbers from the first on
 abbrev pub numbers_from : ℕ → ℕ → List ℕ

@@ -16,6 +16,7 @@ use vol_numbers::{BlockNo, CountList, Geometry, Run, RunList};
 /// The free blocks of the area.
 #[derive(Drop)]
 pub struct FreeMap {
+    alloc: Global,
     runs: VecDeque<Run>,
     free: u32,
 }
@@ -59,7 +60,19 @@ impl FreeMap {
     {
         let all = &counts.as_slice()[..g.blocks() as usize];
         let (runs, free) = runs_of_zeros(alloc, all, g.area_start())?;
-        Ok(FreeMap { runs, free })
+        Ok(FreeMap { alloc, runs, free })
+    }
+
+    /// The same free blocks, from which others can be taken.
+    pub fn copy(&self) -> Result<FreeMap, AllocError>
+        ensures { IfOk result (λ m. m ≡ self.now) }
+    {
+        let runs = copied(self.alloc, &self.runs)?;
+        Ok(FreeMap {
+            alloc: self.alloc,
+            runs,
+            free: self.free,
+        })
     }
 
     /// How many blocks are free.
@@ -67,17 +80,6 @@ impl FreeMap {
         ensures { result ≡ length self.now }
     {
         self.free
-    }
-
-    /// The same free blocks.
-    pub fn copy(&self, alloc: Global) -> Result<FreeMap, AllocError>
-        ensures { IfOk result (λ m. m ≡ self.now) }
-    {
-        let runs = copied(alloc, &self.runs)?;
-        Ok(FreeMap {
-            runs,
-            free: self.free,
-        })
     }
 
     /// Takes the lowest free block, as the rule takes one block. It takes no memory.
@@ -94,7 +96,7 @@ impl FreeMap {
     ///
     /// Where a run is long enough, the runs up to the lowest such are looked at once. Where none is and the blocks are taken in k runs,
     /// all runs are copied once and looked at at most k + 1 times.
-    pub fn take_run(&mut self, alloc: Global, n: u32) -> Result<RunList, TakeFault>
+    pub fn take_run(&mut self, n: u32) -> Result<RunList, TakeFault>
         requires { 1 ≤ n }
         ensures taken { IfOk result (λ runs. runs ≡ taken_runs self.old n) }
         ensures in_turn { IfOk result (λ runs. AreTaken self.old n runs) }
@@ -107,7 +109,7 @@ impl FreeMap {
         if self.free < n {
             return Err(TakeFault::Short { free: self.free });
         }
-        let taken = take_pieces(alloc, &mut self.runs, n)?;
+        let taken = take_pieces(self.alloc, &mut self.runs, n)?;
         self.free -= n;
         Ok(RunList::from_vec(taken))
     }

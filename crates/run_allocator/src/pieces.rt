@@ -1,5 +1,5 @@
 //! Pieces of free runs: which the rule takes, and the taking.
-ghost use Rattle.std.specs.Prelude.{◌≡◌, ◌<◌, ◌≤◌, ◌∷◌, length, IfOk, OnErr, List};
+ghost use Rattle.std.specs.Prelude.{◌≡◌, ◌<◌, ◌≤◌, ◌+◌, ◌-◌, ◌∷◌, nat_le, nat_lt, length, IfOk, OnErr, List};
 ghost use Rattle.vol_numbers.specs.declared.runs.Run.{Run};
 ghost use Rattle.run_allocator.specs.Runs.{AreApart, numbers_of};
 ghost use Rattle.run_allocator.specs.Taken.{front};
@@ -133,10 +133,19 @@ fn cut(runs: &mut VecDeque<Run>, piece: Piece)
         runs.remove(piece.index);
         return;
     }
-    runs[piece.index] = Run {
-        first: piece.run.first + piece.length,
-        length: piece.run.length - piece.length,
-    };
+    runs[piece.index] = behind(piece.run, piece.length);
+}
+
+/// A run without its lowest n blocks.
+fn behind(run: Run, n: u32) -> Run
+    requires within { n ≤ run.length }
+    requires end { run.first + run.length ≤ 65536 }
+    ensures { result ≡ record { first = run.first + n; length = run.length - n } }
+{
+    Run {
+        first: run.first + n,
+        length: run.length - n,
+    }
 }
 
 /// The piece that the rule takes for n blocks: of the first run that is long enough, or else the longest run, the first among equals.
@@ -150,21 +159,38 @@ fn find_piece(runs: &VecDeque<Run>, n: u32) -> Piece
     let mut longest = runs[0];
     for i in 0..runs.len() {
         let run = runs[i];
-        if n <= run.length {
-            return Piece {
-                index: i,
-                run,
-                length: n,
-            };
+        if is_enough(run, n) {
+            return lowest(i, run, n);
         }
-        if longest.length < run.length {
+        if is_longer(run, longest) {
             index = i;
             longest = run;
         }
     }
+    lowest(index, longest, longest.length)
+}
+
+/// Whether a run has n blocks.
+fn is_enough(run: Run, n: u32) -> bool
+    ensures { result ≡ nat_le n run.length }
+{
+    n <= run.length
+}
+
+/// Whether a run is longer than another.
+fn is_longer(run: Run, other: Run) -> bool
+    ensures { result ≡ nat_lt other.length run.length }
+{
+    other.length < run.length
+}
+
+/// The lowest n blocks of a run.
+fn lowest(index: usize, run: Run, n: u32) -> Piece
+    ensures { result ≡ record { index = index; run = run; length = n } }
+{
     Piece {
         index,
-        run: longest,
-        length: longest.length,
+        run,
+        length: n,
     }
 }

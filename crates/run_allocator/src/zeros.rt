@@ -1,5 +1,5 @@
 //! The runs of the zeros of a list of counts.
-ghost use Rattle.std.specs.Prelude.{◌≡◌, ◌<◌, ◌≤◌, ◌+◌, ◌∷◌, length, drop, IfOk, OnOk};
+ghost use Rattle.std.specs.Prelude.{◌≡◌, ◌<◌, ◌≤◌, ◌+◌, ◌∷◌, nat_eq, length, drop, IfOk, OnOk};
 ghost use Rattle.run_allocator.specs.Runs.{AreApart, numbers_of, zeros_from};
 ghost use Rattle.run_allocator.specs.Taken.{with_number};
 
@@ -23,13 +23,19 @@ pub(crate) fn runs_of_zeros(
     let mut runs = VecDeque::new(alloc);
     let mut free = 0;
     for b in (start..counts.len() as u32).rev() {
-        let count = counts[b as usize];
-        if count == 0 {
+        if is_free(counts[b as usize]) {
             put_below(&mut runs, b)?;
             free += 1;
         }
     }
     Ok((runs, free))
+}
+
+/// Whether a block of this count is free.
+fn is_free(count: u32) -> bool
+    ensures { result ≡ nat_eq count 0 }
+{
+    count == 0
 }
 
 /// Puts a block below the runs: the lowest is longer by it, or it is a run by itself.

@@ -1,4 +1,4 @@
-use Rattle.std.proofs.Common.{◌≡◌, ◌<◌, ◌∙◌, sym, subst, arith}
+use Rattle.std.proofs.Common.{◌≡◌, ◌<◌, ◌∙◌, ap, set, sym, subst, arith}
 use Rattle.std.specs.Prelude.{Option, OnSome}
 use Rattle.std.specs.List.{remove}
 use Rattle.std.specs.VecDeque.{deque_len}
@@ -16,4 +16,7 @@ returns-then-piece c =
     removed ∙ sym (take_at_whole runs piece.index piece.run piece.length c.requires.there c.if-piece.true)
 
 pub returns : goal.returns
-returns c = sym (take_at_part c.args.runs.now.items c.args.piece.index c.args.piece.run c.args.piece.length c.requires.there c.if-piece.false)
+returns c =
+    let runs = c.args.runs.now.items in
+    let piece = c.args.piece in
+    ap (λ (r : Run). set runs piece.index r) c.behind.ensures ∙ sym (take_at_part runs piece.index piece.run piece.length c.requires.there c.if-piece.false)

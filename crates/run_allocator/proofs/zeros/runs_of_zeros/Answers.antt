@@ -4,8 +4,8 @@ use Rattle.run_allocator.proofs.RunLaws.{apart_lower}
 use Rattle.run_allocator.proofs.ZeroLaws.{with_numbers, with_apart, zero_there, none_there}
 use Rattle.run_allocator.proofs.zeros.runs_of_zeros.Goals as goal
 
-pub loop-b-preserved-then-count-eq0 : goal.loop-b-preserved-then-count-eq0
-loop-b-preserved-then-count-eq0 c =
+pub loop-b-preserved-then-is_free : goal.loop-b-preserved-then-is_free
+loop-b-preserved-then-is_free c =
     let inv = c.loop-b.invariant in
     let b = c.loop-b.b - 1 in
     let old = c.loop-b.runs.items in
@@ -14,7 +14,7 @@ loop-b-preserved-then-count-eq0 c =
     let items = c.in_ok-put_below.ensures in
     let numbers = ap numbers_of items ∙ with_numbers b old in
     record {
-      numbers = numbers ∙ (ap (λ (bs : List ℕ). b ∷ bs) inv.numbers ∙ sym (zero_there c.args.counts.now c.loop-b.b _ some inv.within c.if-count-eq0.true));
+      numbers = numbers ∙ (ap (λ (bs : List ℕ). b ∷ bs) inv.numbers ∙ sym (zero_there c.args.counts.now c.loop-b.b _ some inv.within (sym c.is_free.ensures ∙ c.if-is_free.true)));
       apart = rw items (with_apart b old (omega (arith, inv.within, c.requires.end)) (rw e inv.apart));
       free = let l = ap length numbers in omega (arith, l, inv.free);
       few = omega (arith, inv.few, some);
@@ -27,7 +27,7 @@ loop-b-preserved c =
     let inv = c.loop-b.invariant in
     let some : 0 < c.loop-b.b = omega (arith, c.loop-b-test.true) in
     record {
-      numbers = inv.numbers ∙ sym (none_there c.args.counts.now c.loop-b.b _ some inv.within c.if-count-eq0.false);
+      numbers = inv.numbers ∙ sym (none_there c.args.counts.now c.loop-b.b _ some inv.within (sym c.is_free.ensures ∙ c.if-is_free.false));
       apart = apart_lower (c.loop-b.b - 1) c.loop-b.b c.loop-b.runs.items (omega arith) inv.apart;
       free = inv.free;
       few = omega (arith, inv.few);
