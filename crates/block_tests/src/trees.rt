@@ -250,17 +250,15 @@ fn done<D: Disk>(
 }
 
 /// How many of the first steps are done, one after the other, and the root then.
-fn steps_done<D: Disk>(alloc: Global, disk: &mut D, g: &Geometry, steps: &[Step]) -> (u32, TreeRoot) {
+fn steps_done<D: Disk>(alloc: Global, disk: &mut D, g: &Geometry, steps: &[Step]) -> (usize, TreeRoot) {
     let mut root = TreeRoot { height: 0, ptr: 0 };
-    let mut count = 0;
-    for step in steps {
+    for (i, step) in steps.iter().enumerate() {
         match done(alloc, disk, g, &root, step) {
             Some(new) => root = new,
-            None => return (count, root),
+            None => return (i, root),
         }
-        count += 1;
     }
-    (count, root)
+    (steps.len(), root)
 }
 
 fn all_steps_are_done(alloc: Global) -> Result<bool, Fail> {
@@ -281,7 +279,7 @@ fn trees_grow_and_are_cut(rt: HostRuntime) -> Result<(), Fail> {
 #[derive(Clone, Copy, PartialEq, Eq)]
 enum Outcome {
     /// So many steps are done.
-    Steps(u32),
+    Steps(usize),
     /// All are done, and a place isn't found.
     NotFound(LookFault),
     /// A place is found, and the pointers aren't listed.

@@ -10,12 +10,13 @@ use Rattle.block_tree.specs.Tree.{Blocks, index_at, nonzero}
 use Rattle.block_tree.specs.Parts.{leaf_of, all_pointers}
 use Rattle.block_tree.specs.Root.{block_at, tree_indexes}
 use Rattle.place_words.specs.Different.{times}
-use Rattle.block_tree.specs.Notes.{Noted, Stand, Settles, Takes, refs, paged}
+use Rattle.block_tree.specs.Notes.{Noted, Stand, Settles, Takes, Sourced, refs, paged}
 use Rattle.block_tree.specs.Edit.{cut_at, changed_at, IsLeafBefore, IsLeafAfter, IsEmptied}
 use Rattle.block_tree.specs.Renewal.{IsRenewed}
 use Rattle.block_tree.specs.Leaf.{StaysAt, FullAt, IsFirstRewritten, AreLeavesRewritten, level}
 use Rattle.block_tree.specs.Opened.{Opens, PartsStay, PartsFull, FitsHeight, ChangesFit, HasLeaves, IsTreeRewritten}
 use Rattle.block_tree.specs.declared.root.TreeRoot.{TreeRoot}
+use Rattle.block_tree.proofs.SourceLaws.{sourced_same, sourced_then}
 use Rattle.block_tree.proofs.NoteLaws.{refs-set, refs-append, times-append, settles_beside, settles_none}
 use Rattle.block_tree.proofs.LeafLaws.{settles_then, refs-level, level_like, zeros_lead_nowhere, nonzero-cons}
 use Rattle.block_tree.proofs.OpeningLaws.{no_leaf, block_at_leaf}
@@ -131,6 +132,7 @@ module _ {read : Blocks} {root : TreeRoot} {changes : List Change} {cut top : �
     top_is = opened.top_is;
     full = full_at edited;
     indexes = λ b. omega (arith, opened.indexes b, edited.indexes b, refs-set b leaves 0 new (omega (arith, long)), rest.indexes b);
+    sources = sourced_then edited.sources rest.sources;
   }
 
   -- where the leaf 0 gives way, the pages of before are at most old index blocks and pages
@@ -204,6 +206,7 @@ module _ {read : Blocks} {root : TreeRoot} {changes : List Change} {cut top : �
               has.indexes b,
               ap (λ (v : List ℕ). times b v) (nonzero_first leaves (omega (arith, long)) (λ j some lt. has.none is j some (omega (arith, lt, long)) (emptied j some (omega (arith, lt, long))))),
             );
+        sources = sourced_then has.sources (sourced_same changes n (record n { dropped = n.dropped ++ nonzero (top ∷ []) }) refl refl);
       }
 
   -- the leaves under a top index
@@ -235,13 +238,14 @@ module _ {read : Blocks} {root : TreeRoot} {changes : List Change} {cut top : �
           refs-append b (new ∷ []) (index_at after new),
           ap (λ (v : List ℕ). times b v) (renewed.entries after stand (has.top_is after stays)).some,
         );
+    sources = sourced_then has.sources (renewed.sources changes);
   }
 
 -- the block of place 0 alone
 pub tree_block : {read : Blocks} {root : TreeRoot} {changes : List Change} {cut : ℕ} {ptrs : List ℕ} {m n : Noted} → length ptrs ≡ 1024 → IsLeafAfter changes cut (block_at read root) 0 ptrs
     → FitsHeight read root cut 0 → ChangesFit 0 changes → ((after : Blocks) → Stand n.pages after → PartsStay read root after → Settles (all_pointers read root) ptrs m n)
-    → ((b : ℕ) → paged b m ≤ times b (tree_indexes read root) + paged b n) → IsTreeRewritten read root changes cut (record { height = 0; ptr = slice_index ptrs 0 }) m n
-tree_block {read = read} {root = root} {changes = changes} {cut = cut} {ptrs = ptrs} long places fits all settles indexes = record {
+    → ((b : ℕ) → paged b m ≤ times b (tree_indexes read root) + paged b n) → Sourced changes m n → IsTreeRewritten read root changes cut (record { height = 0; ptr = slice_index ptrs 0 }) m n
+tree_block {read = read} {root = root} {changes = changes} {cut = cut} {ptrs = ptrs} long places fits all settles indexes sources = record {
   places = λ after stand stays. by_leaves after new at (λ j lt i small. ⊎_elim
       (λ first. subst (λ (k : ℕ). slice_index (leaf_of after new k) i ≡ at (1024 * k + i)) (sym first) (in_first i small))
       (λ other. ap (λ (v : List ℕ). slice_index v i) (sym (no_leaf (slice_index ptrs 0 ∷ []) j (omega (arith, other))))
@@ -252,6 +256,7 @@ tree_block {read = read} {root = root} {changes = changes} {cut = cut} {ptrs = p
   };
   full = λ after stand stays full. tt;
   indexes = λ after stand stays b. omega (arith, indexes b);
+  sources = sources;
 }
   where
     new : TreeRoot

@@ -12,11 +12,12 @@ use Rattle.vol_numbers.specs.declared.runs.Change.{Change}
 use Rattle.block_tree.specs.Tree.{Blocks, index_at, nonzero}
 use Rattle.place_words.specs.Different.{times}
 use Rattle.block_tree.specs.Parts.{SameEntries}
-use Rattle.block_tree.specs.Notes.{Noted, Stand, Settles, Takes, page_blocks, refs, paged}
+use Rattle.block_tree.specs.Notes.{Noted, Stand, Settles, Takes, AddsNew, page_blocks, refs, paged}
 use Rattle.block_tree.specs.Edit.{IsLeafBefore, IsLeafAfter, IsEmptied, IsEdit, cut_at}
 use Rattle.block_tree.specs.Renewal.{IsRenewed, IsNoted}
 use Rattle.block_tree.specs.Leaf.{StaysAt, FullAt, IsLeafEdited, IsLeafRewritten, IsFirstRewritten, IsUntouched, AreLeavesRewritten, level}
 use Rattle.block_tree.proofs.EditLaws.{changed_elsewhere, kept_below}
+use Rattle.block_tree.proofs.SourceLaws.{sourced_same, sourced_then, sourced_noted}
 use Rattle.block_tree.proofs.NoteLaws.{refs-set, refs-append, settles_beside, settles_none}
 
 pub stand_same : (m n : Noted) (read : Blocks) → n.pages ≡ m.pages → Stand n.pages read → Stand m.pages read
@@ -40,9 +41,9 @@ zeros_lead_nowhere (p ∷ ps) zeros =
 
 -- the old pointers are edited, the block is renewed, and what comes and goes is noted
 pub leaf_is_edited : {changes : List Change} {cut k leaf new : ℕ} {was ptrs free left : List ℕ} {m n o : Noted}
-    → length ptrs ≡ 1024 → IsEdit changes cut k was ptrs → IsRenewed leaf was ptrs new free left m n → IsNoted was ptrs n o
+    → length ptrs ≡ 1024 → IsEdit changes cut k was ptrs → IsRenewed leaf was ptrs new free left m n → IsNoted was ptrs n o → length was ≡ 1024 → AddsNew (length was) was ptrs n o
     → IsLeafEdited changes cut k leaf was new m o
-leaf_is_edited {new = new} {ptrs = ptrs} {n = n} {o = o} long edits renewed noted = record {
+leaf_is_edited {changes = changes} {cut = cut} {k = k} {new = new} {was = was} {ptrs = ptrs} {n = n} {o = o} long edits renewed noted as_long adds = record {
   places = λ after old stand same before i lt. (renewed.entries after (stand_same n o after noted.pages stand) same).each i ∙ edits old before i lt;
   settles = λ after stand same.
       settles_like refl (sym (nonzero-cons new (index_at after new) ptrs (renewed.entries after (stand_same n o after noted.pages stand) same).some))
@@ -52,6 +53,7 @@ leaf_is_edited {new = new} {ptrs = ptrs} {n = n} {o = o} long edits renewed note
       let e = (renewed.entries after (stand_same n o after noted.pages stand) same).some in
       omega (arith, some, renewed.none (sym e ∙ empty));
   indexes = λ b. omega (arith, renewed.indexes b, ap (λ (ps : List Page). times b (page_blocks ps)) noted.pages);
+  sources = sourced_then (renewed.sources changes) (sourced_noted changes cut k was ptrs as_long edits adds noted.pages);
 }
 
 pub takes_noted : {was ptrs free left : List ℕ} {m n o : Noted} → Takes free left m n → IsNoted was ptrs n o → Takes free left m o
@@ -75,6 +77,7 @@ leaf_is_rewritten {read = read} {leaf = leaf} {was = was} same edited = record {
   none = λ is old before emptied. edited.none old (λ i lt. sym (same.each i) ∙ before i lt) emptied;
   full = λ after stand stays was_full. edited.full after stand (λ some. here after stays);
   indexes = edited.indexes;
+  sources = edited.sources;
 }
   where
     here : (after : Blocks) → StaysAt read after leaf → SameEntries (index_at after leaf) was
@@ -91,6 +94,7 @@ leaf_untouched {read = read} {changes = changes} {cut = cut} k leaf m untouched 
   none = λ is. absurd (untouched.passed is);
   full = λ after stand stays full some. subst (λ (v : List ℕ). nonzero v ≡ [] → ⊥) (sym (index_stays read after leaf stays)) (full some);
   indexes = λ b. omega arith;
+  sources = sourced_same changes m m refl refl;
 }
 
 -- the leaf 0, made of the block of place 0, and as it was on the disk
@@ -101,6 +105,7 @@ first_made leaf {first = first} {was = was} none same edited = record {
   settles = λ after stand stays. settles_like (nonzero-cons leaf was first (sym same.some)) refl (edited.settles after stand (λ some. absurd (omega (arith, some, none))));
   full = λ after stand stays full. edited.full after stand (λ some. absurd (omega (arith, some, none)));
   indexes = edited.indexes;
+  sources = edited.sources;
 }
 
 pub first_kept : {read : Blocks} {changes : List Change} {cut : ℕ} {over : Bool} (leaf : ℕ) {new : ℕ} {m n : Noted} → IsLeafRewritten read changes cut over 0 leaf new m n
@@ -110,6 +115,7 @@ first_kept {read = read} leaf {new = new} {m = m} {n = n} rewritten = record {
   settles = λ after stand stays. subst (λ (v : List ℕ). Settles (leaf ∷ v) (new ∷ index_at after new) m n) (index_stays read after leaf stays) (rewritten.settles after stand stays);
   full = λ after stand stays full. rewritten.full after stand stays full;
   indexes = rewritten.indexes;
+  sources = rewritten.sources;
 }
 
 -- the pointers of a level, leaf by leaf
@@ -146,6 +152,7 @@ module _ (read : Blocks) (changes : List Change) (cut : ℕ) (over : Bool) (befo
     none = λ is old was j some lt. absurd (omega (arith, some, lt));
     full = λ after stand stays was_full j some lt. absurd (omega (arith, some, lt));
     indexes = λ b. omega arith;
+    sources = sourced_same changes m m refl refl;
   }
 
   pub leaves_more : (k : ℕ) (leaves : List ℕ) (new : ℕ) {free left : List ℕ} {m n o : Noted} → 1 ≤ k → k < 1024 → AreLeavesRewritten read changes cut over k before leaves m n
@@ -177,6 +184,7 @@ module _ (read : Blocks) (changes : List Change) (cut : ℕ) (over : Bool) (befo
             (λ other. subst (λ (t : ℕ). FullAt after t) (sym (get_or-set_other leaves k j new 0 other)) (so_far.full after (takes.grows after stand) stays was_full j at_least (omega (arith, other, below))))
             (cases_eq j k);
         indexes = λ b. omega (arith, so_far.indexes b, one.indexes b, refs-set b leaves k new in_list);
+        sources = sourced_then so_far.sources one.sources;
       }
 
 -- a sum in which zeros count nothing

@@ -12,5 +12,6 @@ pub mod PartLaws
 pub mod RenewalLaws
 pub mod Rise
 pub mod RoomLaws
+pub mod SourceLaws
 pub mod Spell
 pub mod UntouchedLaws

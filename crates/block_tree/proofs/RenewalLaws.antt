@@ -10,6 +10,7 @@ use Rattle.block_tree.specs.Parts.{SameEntries}
 use Rattle.block_tree.specs.Notes.{Noted}
 use Rattle.block_tree.specs.Renewal.{IsRenewed}
 use Rattle.block_tree.proofs.EntryLaws.{index_there, same_refl}
+use Rattle.block_tree.proofs.SourceLaws.{sourced_same, sourced_page}
 use Rattle.block_tree.proofs.NoteLaws.{times-append, refs-one, paged_more, settles_change, stand_front, stand_last, takes_one}
 
 -- where none leads to a block, each is 0
@@ -37,6 +38,7 @@ module _ (old : ℕ) (was ptrs : List ℕ) (free : List ℕ) (m : Noted) where
     kept = λ is same some. absurd (some none);
     none = λ is. refl;
     indexes = λ b. omega arith;
+    sources = λ changes. sourced_same changes m (record m { dropped = m.dropped ++ nonzero (old ∷ []) }) refl refl;
   }
 
   pub renewed_fresh : (at : ℕ) (left : List ℕ) (block : Block) → 0 < at → free ≡ at ∷ left → words block.bytes ≡ ptrs → length ptrs ≡ 1024 → (0 < old → ptrs ≡ was → ⊥) → (nonzero ptrs ≡ [] → ⊥)
@@ -54,4 +56,5 @@ module _ (old : ℕ) (was ptrs : List ℕ) (free : List ℕ) (m : Noted) where
         kept = λ is same is_some. absurd (other is same);
         none = λ is. absurd (not_none is);
         indexes = λ b. omega (arith, refs-one b at, paged_more b m.pages page);
+        sources = λ changes. sourced_page changes m page (m.dropped ++ nonzero (old ∷ []));
       }

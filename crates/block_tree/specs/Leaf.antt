@@ -4,7 +4,7 @@ use Rattle.std.specs.List.{flat_map}
 use Rattle.vol_numbers.specs.declared.runs.Change.{Change}
 use Rattle.block_tree.specs.Tree.{Blocks, index_at, nonzero}
 use Rattle.block_tree.specs.Parts.{SameEntries}
-use Rattle.block_tree.specs.Notes.{Noted, Stand, Settles, refs, paged}
+use Rattle.block_tree.specs.Notes.{Noted, Stand, Settles, Sourced, refs, paged}
 use Rattle.block_tree.specs.Edit.{IsLeafBefore, IsLeafAfter, IsEmptied, leaves_of}
 use Rattle.place_words.specs.Different.{is_among}
 
@@ -25,6 +25,7 @@ pub record IsLeafEdited (changes : List Change) (cut k leaf : ℕ) (was : List �
   pub none : (old : ℕ → ℕ) → IsLeafBefore old k was → IsEmptied changes cut old k → new ≡ 0
   pub full : (after : Blocks) → Stand n.pages after → (0 < leaf → SameEntries (index_at after leaf) was) → FullAt after new
   pub indexes : (b : ℕ) → refs b (new ∷ []) + paged b m ≤ refs b (leaf ∷ []) + paged b n
+  pub sources : Sourced changes m n
 
 -- Of a leaf on the disk. One that isn't gone over is as it was: it is full if it was, and it may have no place left.
 pub record IsLeafRewritten (read : Blocks) (changes : List Change) (cut : ℕ) (over : Bool) (k leaf new : ℕ) (m n : Noted) : Type 0 where
@@ -34,6 +35,7 @@ pub record IsLeafRewritten (read : Blocks) (changes : List Change) (cut : ℕ) (
   pub none : IsTrue over → (old : ℕ → ℕ) → IsLeafBefore old k (index_at read leaf) → IsEmptied changes cut old k → new ≡ 0
   pub full : (after : Blocks) → Stand n.pages after → StaysAt read after leaf → FullAt read leaf → FullAt after new
   pub indexes : (b : ℕ) → refs b (new ∷ []) + paged b m ≤ refs b (leaf ∷ []) + paged b n
+  pub sources : Sourced changes m n
 
 -- Neither the cut nor a change touches the leaf k, and it isn't gone over with all leaves.
 pub record IsUntouched (over : Bool) (changes : List Change) (cut k : ℕ) : Type 0 where
@@ -47,6 +49,7 @@ pub record IsFirstRewritten (read : Blocks) (changes : List Change) (cut leaf : 
   pub settles : (after : Blocks) → Stand n.pages after → StaysAt read after leaf → Settles (leaf ∷ first) (new ∷ index_at after new) m n
   pub full : (after : Blocks) → Stand n.pages after → StaysAt read after leaf → FullAt read leaf → FullAt after new
   pub indexes : (b : ℕ) → refs b (new ∷ []) + paged b m ≤ refs b (leaf ∷ []) + paged b n
+  pub sources : Sourced changes m n
 
 -- the pointers of a top index and of its leaves
 abbrev pub level : Blocks → List ℕ → List ℕ
@@ -67,3 +70,4 @@ pub record AreLeavesRewritten (read : Blocks) (changes : List Change) (cut : ℕ
   pub full : (after : Blocks) → Stand n.pages after → ((j : ℕ) → 1 ≤ j → StaysAt read after (slice_index before j)) → ((j : ℕ) → 1 ≤ j → FullAt read (slice_index before j))
       → (j : ℕ) → 1 ≤ j → j < end → FullAt after (slice_index leaves j)
   pub indexes : (b : ℕ) → refs b leaves + paged b m ≤ refs b before + paged b n
+  pub sources : Sourced changes m n

@@ -1,8 +1,9 @@
 -- What a rewriting notes.
-use Rattle.std.specs.Prelude.{◌≡◌, ℕ, ◌+◌, List, [], ◌++◌, map, All}
+use Rattle.std.specs.Prelude.{◌≡◌, ◌≢◌, ◌<◌, ◌⊎◌, true, slice_index, ℕ, ◌+◌, List, [], ◌++◌, map, All}
 use Rattle.vol_numbers.specs.declared.runs.Page.{Page}
 use Rattle.block_tree.specs.Tree.{Blocks, nonzero}
-use Rattle.place_words.specs.Different.{times}
+use Rattle.place_words.specs.Different.{times, is_among}
+use Rattle.vol_numbers.specs.declared.runs.Change.{Change}
 
 -- the pages to be written, and the pointers that come and that go, with repeats
 pub record Noted : Type 0 where
@@ -37,3 +38,24 @@ pub record Settles (before after : List ℕ) (m n : Noted) : Type 0 where
 pub record Takes (free left : List ℕ) (m n : Noted) : Type 0 where
   pub in_order : page_blocks n.pages ++ left ≡ page_blocks m.pages ++ free
   pub grows : (read : Blocks) → Stand n.pages read → Stand m.pages read
+
+-- the blocks of changes
+abbrev pub change_blocks : List Change → List ℕ
+change_blocks changes = map (λ (c : Change). c.block) changes
+
+-- What is added besides is the block of a page or of a change. No page is lost.
+pub record Sourced (changes : List Change) (m n : Noted) : Type 0 where
+  pub pages : (b : ℕ) → is_among (page_blocks m.pages) b ≡ true → is_among (page_blocks n.pages) b ≡ true
+  pub added : (b : ℕ) → is_among n.added b ≡ true → (is_among m.added b ≡ true) ⊎ ((is_among (page_blocks n.pages) b ≡ true) ⊎ (is_among (change_blocks changes) b ≡ true))
+
+-- Below one place, the new pointers have this block where the old ones have another.
+pub record IsNewIn (end : ℕ) (was ptrs : List ℕ) (b : ℕ) : Type 0 where
+  pub place : ℕ
+  pub below : place < end
+  pub new : slice_index ptrs place ≡ b
+  pub other : slice_index was place ≢ b
+  pub some : 0 < b
+
+-- What is added besides is new among these pointers.
+pub record AddsNew (end : ℕ) (was ptrs : List ℕ) (m n : Noted) : Type 0 where
+  pub added : (b : ℕ) → is_among n.added b ≡ true → (is_among m.added b ≡ true) ⊎ IsNewIn end was ptrs b

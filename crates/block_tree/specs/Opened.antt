@@ -7,7 +7,7 @@ use Rattle.block_tree.specs.Root.{block_at, tree_indexes}
 use Rattle.block_tree.specs.Parts.{all_pointers, SameEntries}
 use Rattle.block_tree.specs.Edit.{cut_at, changed_at, IsLeafBefore, IsLeafAfter, IsEmptied}
 use Rattle.block_tree.specs.Leaf.{StaysAt, FullAt, level}
-use Rattle.block_tree.specs.Notes.{Noted, Stand, Settles, refs, paged}
+use Rattle.block_tree.specs.Notes.{Noted, Stand, Settles, Sourced, refs, paged}
 use Rattle.block_tree.specs.declared.root.TreeRoot.{TreeRoot}
 
 -- the index blocks of a tree are there as they were, block by block
@@ -61,6 +61,7 @@ pub record HasLeaves (read : Blocks) (root : TreeRoot) (changes : List Change) (
   pub top_is : (after : Blocks) → PartsStay read root after → 0 < top → SameEntries (index_at after top) was
   pub full : (after : Blocks) → Stand n.pages after → PartsStay read root after → PartsFull read root → (j : ℕ) → FullAt after (slice_index leaves j)
   pub indexes : (b : ℕ) → refs b (top ∷ []) + refs b leaves + paged b m ≤ times b (tree_indexes read root) + paged b n
+  pub sources : Sourced changes m n
 
 -- The tree that is made: in each image in which the pages stand, and the old index blocks as they were, it has the places of the old one after the cut and the changes,
 -- its pointers are those of the old one with those that were added and without those that were dropped, and it is full if the old one is.
@@ -70,3 +71,4 @@ pub record IsTreeRewritten (read : Blocks) (root : TreeRoot) (changes : List Cha
   pub full : (after : Blocks) → Stand n.pages after → PartsStay read root after → PartsFull read root → PartsFull after new
   -- each new index block is an old one or a page's
   pub indexes : (after : Blocks) → Stand n.pages after → PartsStay read root after → (b : ℕ) → times b (tree_indexes after new) + paged b m ≤ times b (tree_indexes read root) + paged b n
+  pub sources : Sourced changes m n

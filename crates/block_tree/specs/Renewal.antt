@@ -2,7 +2,8 @@
 use Rattle.std.specs.Prelude.{◌≡◌, ◌≢◌, ◌<◌, ◌≤◌, ◌+◌, ℕ, List, [], ◌∷◌, length}
 use Rattle.block_tree.specs.Tree.{Blocks, index_at, nonzero}
 use Rattle.block_tree.specs.Parts.{SameEntries}
-use Rattle.block_tree.specs.Notes.{Noted, Stand, Settles, Takes, refs, paged}
+use Rattle.block_tree.specs.Notes.{Noted, Stand, Settles, Takes, Sourced, refs, paged}
+use Rattle.vol_numbers.specs.declared.runs.Change.{Change}
 
 -- A fresh block is needed: a pointer leads to a block, and there is no old block that has just these pointers.
 pub record NeedsBlock (old : ℕ) (was ptrs : List ℕ) : Type 0 where
@@ -21,6 +22,7 @@ pub record IsRenewed (old : ℕ) (was ptrs : List ℕ) (new : ℕ) (free left : 
   pub none : nonzero ptrs ≡ [] → new ≡ 0
   -- the new block is the old one or a page's
   pub indexes : (b : ℕ) → refs b (new ∷ []) + paged b m ≤ refs b (old ∷ []) + paged b n
+  pub sources : (changes : List Change) → Sourced changes m n
 
 pub record IsNoted (was ptrs : List ℕ) (m n : Noted) : Type 0 where
   pub settles : Settles was ptrs m n

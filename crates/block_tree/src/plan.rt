@@ -1,14 +1,14 @@
 //! Plans how a tree is rewritten.
-ghost use Rattle.std.specs.Prelude.{◌≡◌, ◌<◌, ◌≤◌, ◌+◌, ◌++◌, ◌^◌, ℕ, All, length, map, IfOk, OnErr, IsTrue};
+ghost use Rattle.std.specs.Prelude.{◌≡◌, ◌<◌, ◌≤◌, ◌+◌, ◌++◌, ◌^◌, ◌⊎◌, true, ℕ, All, length, map, IfOk, OnErr, IsTrue};
 ghost use Rattle.vol_numbers.specs.Geometry.{layout_of};
 ghost use Rattle.vol_numbers.specs.declared.runs.Change.{Change as ChangeOf};
 ghost use Rattle.disk_model.specs.Past.{Adds};
-ghost use Rattle.place_words.specs.Different.{times, different};
+ghost use Rattle.place_words.specs.Different.{times, different, is_among};
 ghost use Rattle.place_words.specs.Index.{index_blocks};
 ghost use Rattle.block_format.specs.Inode.{blocks_of, height_of};
 ghost use Rattle.block_tree.specs.Tree.{Blocks, blocks_in, IsFull};
 ghost use Rattle.block_tree.specs.Root.{block_at, tree_pairs, tree_indexes, tree_pointers, IsRoot, Stays};
-ghost use Rattle.block_tree.specs.Notes.{Stand, page_blocks};
+ghost use Rattle.block_tree.specs.Notes.{Stand, page_blocks, change_blocks};
 ghost use Rattle.block_tree.specs.Edit.{cut_at, changed_at, leaves_of};
 ghost use Rattle.block_tree.specs.Causes.{HasTreeCause, IsTreeDamage};
 
@@ -62,6 +62,8 @@ pub fn rewrite<D: Disk>(
     // Each of its index blocks is one of the old tree or a page's.
     ensures indexes { IfOk result (λ w. IsTrue D.tells → (after : Blocks) → Stand w.pages after → Stays (blocks_in (D.state disk.old).contents) root.now after
         → (b : ℕ) → times b (tree_indexes after w.root) ≤ times b (tree_indexes (blocks_in (D.state disk.old).contents) root.now) + times b (page_blocks w.pages)) }
+    // Each added block is a page's or a change's.
+    ensures added { IfOk result (λ w. IsTrue D.tells → (b : ℕ) → is_among w.added b ≡ true → (is_among (page_blocks w.pages) b ≡ true) ⊎ (is_among (change_blocks changes.now) b ≡ true)) }
     ensures taken { IfOk result (λ w. page_blocks w.pages ++ free.new ≡ free.old) }
     ensures height { IfOk result (λ w. w.root.height ≡ height_of (blocks_of size)) }
     ensures unchanged { OnErr result (free.new ≡ free.old) }

@@ -1,7 +1,9 @@
 //! Index blocks that are written afresh where they change.
-ghost use Rattle.std.specs.Prelude.{◌≡◌, ◌≤◌, ◌<◌, ◌↔◌, ℕ, [], ◌∷◌, List, length, IfOk, OnOk, IsTrue};
+ghost use Rattle.std.specs.Prelude.{◌≡◌, ◌≢◌, ◌≤◌, ◌<◌, ◌↔◌, ◌⊎◌, true, ℕ, [], ◌∷◌, List, length, IfOk, OnOk, IsTrue};
 ghost use Rattle.block_format.specs.Words.{words};
 ghost use Rattle.block_tree.specs.Tree.{nonzero};
+ghost use Rattle.place_words.specs.Different.{is_among};
+ghost use Rattle.block_tree.specs.Notes.{AddsNew};
 ghost use Rattle.block_tree.specs.Renewal.{IsRenewed, IsNoted, NeedsBlock};
 
 use crate::notes::Notes;
@@ -66,7 +68,8 @@ fn spelled(index: &Index) -> Block
 /// Notes which pointers come and go.
 pub(crate) fn note(was: &[u32], ptrs: &[u32], notes: &mut Notes) -> Result<(), AllocError>
     requires { length was.now ≡ length ptrs.now }
-    ensures { OnOk result (IsNoted was.now ptrs.now notes.old notes.new) }
+    ensures noted { OnOk result (IsNoted was.now ptrs.now notes.old notes.new) }
+    ensures added { OnOk result (AddsNew (length was.now) was.now ptrs.now notes.old notes.new) }
 {
     for (i, old) in was.iter().enumerate() {
         note_one(*old, ptrs[i], notes)?;
@@ -75,7 +78,8 @@ pub(crate) fn note(was: &[u32], ptrs: &[u32], notes: &mut Notes) -> Result<(), A
 }
 
 fn note_one(old: BlockNo, new: BlockNo, notes: &mut Notes) -> Result<(), AllocError>
-    ensures { OnOk result (IsNoted (old ∷ []) (new ∷ []) notes.old notes.new) }
+    ensures noted { OnOk result (IsNoted (old ∷ []) (new ∷ []) notes.old notes.new) }
+    ensures added { OnOk result ((b : ℕ) → is_among notes.new.added b ≡ true → (is_among notes.old.added b ≡ true) ⊎ ((new ≡ b) × (old ≢ b) × (0 < b))) }
 {
     if old == new {
         return Ok(());

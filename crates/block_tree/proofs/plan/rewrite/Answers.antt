@@ -1,10 +1,10 @@
-use Rattle.std.proofs.Common.{◌≡◌, ◌∙◌, ℕ, List, ap, subst, sym, arith}
+use Rattle.std.proofs.Common.{◌≡◌, ◌∙◌, ℕ, true, false, inl, inr, ⊎_elim, List, ap, subst, sym, arith}
 use Rattle.block_format.specs.Inode.{blocks_of, height_of}
 use Rattle.vol_numbers.specs.declared.runs.Change.{Change}
-use Rattle.place_words.specs.Different.{times}
+use Rattle.place_words.specs.Different.{times, is_among}
 use Rattle.block_tree.specs.Tree.{Blocks, blocks_in, IsFull}
 use Rattle.block_tree.specs.Root.{tree_indexes}
-use Rattle.block_tree.specs.Notes.{Noted, Stand, page_blocks}
+use Rattle.block_tree.specs.Notes.{Noted, Stand, Sourced, page_blocks}
 use Rattle.block_tree.specs.Opened.{IsTreeRewritten}
 use Rattle.block_tree.specs.declared.plan.Rewritten.{Rewritten}
 use Rattle.block_tree.proofs.PartLaws.{parts_stay, parts_full, whole_full, pointers_listed, tree_counted}
@@ -51,6 +51,19 @@ returns-clause-indexes g c tells after stand stays b =
       made.indexes after (subst (λ (w : Rewritten). Stand w.pages after) is stand) (parts_stay read after root.height root.ptr stays) b,
       ap (λ (w : Rewritten). times b (page_blocks w.pages)) is,
     )
+
+pub returns-clause-added : goal.returns-clause-added
+returns-clause-added g c tells b among =
+    let is = c.into_rewritten.ensures in
+    let sources = subst (λ (cs : List Change). Sourced cs c.new-notes.result c.rewrite_tree.new.notes) c.as_slice.ensures (c.in_ok-root.ensures.rewritten tells).sources in
+    let noted : is_among c.rewrite_tree.new.notes.added b ≡ true = subst (λ (w : Rewritten). is_among w.added b ≡ true) is among in
+    ⊎_elim
+    (λ before. absurd (nothing (subst (λ (n : Noted). is_among n.added b ≡ true) c.new-notes.ensures before)))
+    (λ new. ⊎_elim (λ page. inl (subst (λ (w : Rewritten). is_among (page_blocks w.pages) b ≡ true) (sym is) page)) (λ change. inr change) new)
+    (sources.added b noted)
+  where
+    nothing : false ≡ true → ⊥
+    nothing e = cc
 
 pub returns-clause-full : goal.returns-clause-full
 returns-clause-full g c tells after stand stays was_full =

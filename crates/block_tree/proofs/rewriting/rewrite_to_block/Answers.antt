@@ -15,6 +15,7 @@ use Rattle.vol_numbers.specs.declared.runs.Page.{Page}
 use Rattle.block_tree.specs.Leaf.{AreLeavesRewritten}
 use Rattle.block_tree.specs.Edit.{IsEmptied}
 use Rattle.block_tree.proofs.RoomLaws.{rest_room}
+use Rattle.block_tree.proofs.SourceLaws.{sourced_same, sourced_then, sourced_noted}
 use Rattle.block_tree.proofs.NoteLaws.{settles_beside}
 use Rattle.block_tree.proofs.LeafLaws.{takes_pages, stand_same}
 use Rattle.block_tree.proofs.ClosingLaws.{block_settles, block_indexes, tree_block, settles_remove, emptied_leaf}
@@ -42,7 +43,7 @@ returns-clause-rewritten g c tells =
     let rest = subst (λ (s : State). AreLeavesRewritten (blocks_in s.contents) c.args.changes.now c.args.cut_to true c.end_of-end.result (set leaves 0 0) c.rewrite_rest.new.leaves.ptrs c.note.new.notes c.rewrite_rest.new.notes)
     at_first (c.in_ok-rewrite_rest.ensures.rewritten tells) in
     let without : Settles (slice_index leaves 0 ∷ []) [] c.args.notes.now c.remove.new.self = rw c.in_ok-remove.ensures (settles_remove (slice_index leaves 0) c.args.notes.now) in
-    let begun : Settles (slice_index leaves 0 ∷ first) ptrs c.args.notes.now c.note.new.notes = settles_beside without c.in_ok-note.ensures.settles in
+    let begun : Settles (slice_index leaves 0 ∷ first) ptrs c.args.notes.now c.note.new.notes = settles_beside without c.in_ok-note.ensures.noted.settles in
     let removed : Settles (top ∷ []) [] c.rewrite_rest.new.notes c.remove-2.new.self = rw c.in_ok-remove-2.ensures (settles_remove top c.rewrite_rest.new.notes) in
     let emptied : (j : ℕ) → 1 ≤ j → j < 1024 → IsEmptied c.args.changes.now c.args.cut_to (block_at read c.args.root.now) j =
     λ j some lt. emptied_leaf read c.args.root.now c.args.changes.now c.args.cut_to 0 j (c.requires.fits tells) c.requires.changes (omega arith) some lt in
@@ -58,10 +59,17 @@ returns-clause-rewritten g c tells =
       block_indexes opened (omega arith) 0 c.in_ok-rewrite_rest.ensures.takes true c.end_of-end.result c.rewrite_rest.new.leaves.ptrs rest
           (λ ne. ((c.end_of-end.ensures.low ne).0, emptied)) c.end_of-end.ensures.at_most refl b,
       ap (λ (ps : List Page). times b (page_blocks ps)) pages,
-      ap (λ (ps : List Page). times b (page_blocks ps)) (c.in_ok-note.ensures.pages ∙ ap (λ (n : Noted). n.pages) c.in_ok-remove.ensures),
+      ap (λ (ps : List Page). times b (page_blocks ps)) (c.in_ok-note.ensures.noted.pages ∙ ap (λ (n : Noted). n.pages) c.in_ok-remove.ensures),
     ))
+    (sourced_then
+    (sourced_then
+    (sourced_then
+    (sourced_same c.args.changes.now c.args.notes.now c.remove.new.self (ap (λ (n : Noted). n.pages) c.in_ok-remove.ensures) (ap (λ (n : Noted). n.added) c.in_ok-remove.ensures))
+    (sourced_noted c.args.changes.now c.args.cut_to 0 first ptrs (omega arith) c.edited-index.ensures c.in_ok-note.ensures.added c.in_ok-note.ensures.noted.pages))
+    rest.sources)
+    (sourced_same c.args.changes.now c.rewrite_rest.new.notes c.remove-2.new.self pages (ap (λ (n : Noted). n.added) c.in_ok-remove-2.ensures)))
 
 pub returns-clause-takes : goal.returns-clause-takes
 returns-clause-takes g c =
-    let before : c.args.notes.now.pages ≡ c.note.new.notes.pages = sym (c.in_ok-note.ensures.pages ∙ ap (λ (n : Noted). n.pages) c.in_ok-remove.ensures) in
+    let before : c.args.notes.now.pages ≡ c.note.new.notes.pages = sym (c.in_ok-note.ensures.noted.pages ∙ ap (λ (n : Noted). n.pages) c.in_ok-remove.ensures) in
     takes_pages before (ap (λ (n : Noted). n.pages) c.in_ok-remove-2.ensures) c.in_ok-rewrite_rest.ensures.takes
