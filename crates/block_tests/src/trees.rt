@@ -45,7 +45,10 @@ const STEPS: &[Step] = &[
         ],
         size: 32_768,
         lowest: 114,
-        root: TreeRoot { height: 1, ptr: 114 },
+        root: TreeRoot {
+            height: 1,
+            ptr: 114,
+        },
         pages: &[114],
         added: &[114, 105, 106, 107, 108, 109, 110, 111, 112],
         dropped: &[],
@@ -56,7 +59,10 @@ const STEPS: &[Step] = &[
         changes: &[(1, 103)],
         size: 4_098,
         lowest: 104,
-        root: TreeRoot { height: 1, ptr: 104 },
+        root: TreeRoot {
+            height: 1,
+            ptr: 104,
+        },
         pages: &[104],
         added: &[104, 103],
         dropped: &[114, 106, 107, 108, 109, 110, 111, 112],
@@ -67,7 +73,10 @@ const STEPS: &[Step] = &[
         changes: &[(1_048_575, 1_500)],
         size: 4_294_967_296,
         lowest: 200,
-        root: TreeRoot { height: 2, ptr: 201 },
+        root: TreeRoot {
+            height: 2,
+            ptr: 201,
+        },
         pages: &[200, 201],
         added: &[200, 1_500, 201],
         dropped: &[],
@@ -78,7 +87,10 @@ const STEPS: &[Step] = &[
         changes: &[],
         size: 4_194_304,
         lowest: 300,
-        root: TreeRoot { height: 1, ptr: 104 },
+        root: TreeRoot {
+            height: 1,
+            ptr: 104,
+        },
         pages: &[],
         added: &[],
         dropped: &[200, 1_500, 201],
@@ -89,7 +101,10 @@ const STEPS: &[Step] = &[
         changes: &[(1_024, 1_600)],
         size: 4_198_400,
         lowest: 400,
-        root: TreeRoot { height: 2, ptr: 401 },
+        root: TreeRoot {
+            height: 2,
+            ptr: 401,
+        },
         pages: &[400, 401],
         added: &[400, 1_600, 401],
         dropped: &[],
@@ -100,7 +115,10 @@ const STEPS: &[Step] = &[
         changes: &[],
         size: 4_096,
         lowest: 500,
-        root: TreeRoot { height: 0, ptr: 105 },
+        root: TreeRoot {
+            height: 0,
+            ptr: 105,
+        },
         pages: &[],
         added: &[],
         dropped: &[104, 103, 400, 1_600, 401],
@@ -199,10 +217,7 @@ fn plan<D: Disk>(
         return None;
     }
     let cut_to = step.cut_to;
-    rewrite(
-        alloc, disk, g, root, cut_to, changes, step.size, &mut free,
-    )
-    .ok()
+    rewrite(alloc, disk, g, root, cut_to, changes, step.size, &mut free).ok()
 }
 
 /// Writes the pages, and says whether they are for these blocks.
@@ -250,7 +265,12 @@ fn done<D: Disk>(
 }
 
 /// How many of the first steps are done, one after the other, and the root then.
-fn steps_done<D: Disk>(alloc: Global, disk: &mut D, g: &Geometry, steps: &[Step]) -> (usize, TreeRoot) {
+fn steps_done<D: Disk>(
+    alloc: Global,
+    disk: &mut D,
+    g: &Geometry,
+    steps: &[Step],
+) -> (usize, TreeRoot) {
     let mut root = TreeRoot { height: 0, ptr: 0 };
     for (i, step) in steps.iter().enumerate() {
         match done(alloc, disk, g, &root, step) {
