@@ -1,8 +1,13 @@
-//! Tests of the blocks of a volume: what they spell, how often each is pointed to, which are free, and which are taken.
+//! Tests of the blocks of a volume: what they spell, how often each is pointed to, which are free and which are taken, trees of them,
+//! what commands are charged, and directories.
 #![tactic(auto)]
 
 #[cfg(test)]
+mod charges;
+#[cfg(test)]
 mod counts;
+#[cfg(test)]
+mod directories;
 #[cfg(test)]
 mod formats;
 #[cfg(test)]
