@@ -1,16 +1,21 @@
 -- The order in which the code takes runs whole is that in which the rule takes them.
-use Rattle.std.proofs.Common.{◌≡◌, ◌<◌, ◌≤◌, ℕ, zero, suc, ◌+◌, ◌-◌, ◌==◌, ◌&&◌, Bool, true, false, List, [], ◌∷◌, ◌++◌, length, take, refl, ap, sym, ◌∙◌, subst, arith}
-use Rattle.std.specs.Prelude.{slice_get, Some, None, Option, nat_le, nat_lt, not, if◌then◌else◌}
+use Rattle.std.proofs.Common.{◌≡◌, ◌<◌, ◌≤◌, ℕ, zero, suc, ◌+◌, ◌-◌, ◌==◌, ◌&&◌, Bool, true, false, List, [], ◌∷◌, ◌++◌, length, take, drop, get_or, refl, ap, sym, ◌∙◌, subst, arith}
+use Rattle.std.specs.Prelude.{slice_get, Some, None, Option, nat_le, not, if◌then◌else◌}
+use Rattle.std.specs.List.{sum_by}
+use Rattle.std.specs.List.Sorted.{IsSortedBy}
 use Rattle.std.proofs.lemmas.Bool.Decides.{nat_tests}
+use Rattle.std.proofs.lemmas.List.{length-append, at_drop_more}
+use Rattle.std.proofs.lemmas.List.Sums.{sum_by-cons}
+use Rattle.std.proofs.lemmas.List.Sorted.{sum_by-IsPermutation}
 use Rattle.vol_numbers.specs.declared.runs.Run.{Run}
-use Rattle.run_allocator.specs.Runs.{numbers_of, outside, AreApart}
+use Rattle.run_allocator.specs.Runs.{numbers_from, numbers_of, AreApart}
 use Rattle.run_allocator.specs.Taken.{first_fit, longer, longest, front, step_or, AreTaken, more, left_without}
-use Rattle.run_allocator.specs.Steps.{take_at, IsPiece, IsStep, AreSteps}
-use Rattle.run_allocator.specs.Order.{goes_before, not_before, AreWhole}
+use Rattle.run_allocator.specs.Steps.{take_at, IsStep, AreSteps}
+use Rattle.run_allocator.specs.Order.{goes_before, not_before, IsOrder, AreWhole}
 use Rattle.run_allocator.specs.declared.pieces.Piece.{Piece}
-use Rattle.run_allocator.proofs.RunLaws.{apart_lower, at_least}
-use Rattle.run_allocator.proofs.SearchLaws.{pick_left, pick_right}
-use Rattle.run_allocator.proofs.StepLaws.{apart_at, cut_is_step, step_alone}
+use Rattle.run_allocator.proofs.RunLaws.{apart_lower, at_least, length-numbers_from}
+use Rattle.run_allocator.proofs.SearchLaws.{pick_left, pick_right, read_there}
+use Rattle.run_allocator.proofs.StepLaws.{apart_at, all_shorter, runs_of-numbers, cut_is_step, step_alone}
 use Rattle.run_allocator.proofs.ComputedLaws.{longest_there}
 
 -- ---- which of two runs goes before the other
@@ -239,6 +244,83 @@ first_before runs p ls k q o e = by_test (goes_before p q) refl
         let at_q : (q.first == p.first) ≡ true = grind (arith, nat_tests, same) in
         absurd (omega (arith, o.same f, once_at_first 1 p.first runs o.apart, there_total f ls k q e, ap one at_p, ap one at_q))
 
+-- ---- the order that a sort makes
+
+none_up : (x y : Run) (zs : List Run) → goes_before y x ≡ false → NoneBefore y zs → NoneBefore x zs
+none_up x y [] e none = tt
+none_up x y (z ∷ zs) e none = (before_chain z y x none.0 e, none_up x y zs e none.1)
+
+-- no run goes before the one in front of it
+abbrev IsInPlace : List Run → Type 0
+IsInPlace xs = (k : ℕ) (d : Run) → suc k < length xs → goes_before (get_or xs (suc k) d) (get_or xs k d) ≡ false
+
+in_place_falls : (xs : List Run) → IsInPlace xs → Falls xs
+in_place_falls [] h = tt
+in_place_falls (x ∷ []) h = (tt, tt)
+in_place_falls (x ∷ y ∷ ys) h =
+    let rest = in_place_falls (y ∷ ys) (λ k d less. h (suc k) d (omega (arith, less))) in
+    let e : goes_before y x ≡ false = h zero x (omega arith) in
+    ((e, none_up x y ys e rest.0), rest)
+
+sorted_falls : (xs : List Run) → IsSortedBy goes_before xs → Falls xs
+sorted_falls xs sorted =
+    in_place_falls xs (λ k d less. let next : k + 1 ≡ suc k = omega arith in
+    subst (λ (m : ℕ). goes_before (get_or xs m d) (get_or xs k d) ≡ false) next (sorted k d (omega arith) (omega (arith, less))))
+
+total_is : (f : Run → ℕ) (xs : List Run) → sum_by f xs ≡ total f xs
+total_is f [] = refl
+total_is f (x ∷ xs) = omega (arith, sum_by-cons f x xs, total_is f xs)
+
+pub are_in_order : (runs order : List Run) → AreApart 1 runs → IsOrder runs order → AreInOrder runs order
+are_in_order runs order are o = record {
+  apart = are;
+  same = λ f. sym (total_is f order) ∙ (sum_by-IsPermutation f runs order o.same ∙ total_is f runs);
+  falls = sorted_falls order o.sorted;
+}
+
+size_total : (xs : List Run) → length (numbers_of xs) ≡ total (λ r. r.length) xs
+size_total [] = refl
+size_total (x ∷ xs) = omega (arith, length-append (numbers_from x.first x.length) (numbers_of xs), length-numbers_from x.first x.length, size_total xs)
+
+pub order_size : (runs order : List Run) → AreInOrder runs order → length (numbers_of order) ≡ length (numbers_of runs)
+order_size runs order o = size_total order ∙ (o.same (λ r. r.length) ∙ sym (size_total runs))
+
+-- ---- the runs that are taken whole, and the next
+
+pub whole_within : (order : List Run) (n k left : ℕ) → AreWhole order n k left → k < length order
+whole_within [] n k left whole = absurd whole
+whole_within (r ∷ rs) n zero left whole = omega arith
+whole_within (r ∷ rs) n (suc k) left whole = omega (arith, whole_within rs (n - r.length) k left whole.1)
+
+pub whole_some : (order : List Run) (n k left : ℕ) → 1 ≤ n → AreWhole order n k left → 1 ≤ left
+whole_some [] n k left some whole = absurd whole
+whole_some (r ∷ rs) n zero left some whole = omega (arith, some, whole.0)
+whole_some (r ∷ rs) n (suc k) left some whole = whole_some rs (n - r.length) k left (omega (arith, whole.0)) whole.1
+
+pub whole_enough : (order : List Run) (n k left : ℕ) (q : Run) → AreWhole order n k left → slice_get order k ≡ Some q → left ≤ q.length
+whole_enough [] n k left q whole e = absurd whole
+whole_enough (r ∷ rs) n zero left q whole e = let same : r ≡ q = cc in subst (λ (y : Run). left ≤ y.length) same (omega (arith, whole.0, whole.1))
+whole_enough (r ∷ rs) n (suc k) left q whole e = whole_enough rs (n - r.length) k left q whole.1 e
+
+-- where a run is long enough, a step takes all that is wanted
+pub step_takes_all : (runs : List Run) (i n : ℕ) (q r : Run) (left : List Run) → AreApart 1 runs → slice_get runs i ≡ Some q → n ≤ q.length → IsStep runs n r left → r.length ≡ n
+step_takes_all runs i n q r left are there enough step =
+    of_fit (first_fit n runs) refl (sym (ap (λ (rs : List Run). step_or n (first_fit n rs) (longest rs)) (runs_of-numbers 1 runs are)) ∙ step.taken)
+  where
+    of_fit : (o : Option Run) → first_fit n runs ≡ o → step_or n o (longest runs) ≡ Some r → r.length ≡ n
+    of_fit (Some s) is taken = let same : front s n ≡ r = cc in sym (ap (λ (x : Run). x.length) same)
+    of_fit None is taken = absurd (omega (arith, enough, all_shorter n runs i q is there))
+
+pub some_there : (runs : List Run) (i : ℕ) (q : Run) → slice_get runs i ≡ Some q → 1 ≤ length runs
+some_there [] i q e = cc
+some_there (x ∷ xs) i q e = omega arith
+
+pub some_left : (xs : List Run) (i : ℕ) → 1 ≤ length (numbers_of (drop i xs)) → i < length xs
+some_left [] zero some = absurd (omega (arith, some))
+some_left [] (suc i) some = absurd (omega (arith, some))
+some_left (x ∷ xs) zero some = omega arith
+some_left (x ∷ xs) (suc i) some = omega (arith, some_left xs i some)
+
 -- ---- a take as several pieces
 
 pub many_steps : (count : ℕ) (runs order : List Run) (n left : ℕ) (q r : Run) (final : List Run) → AreInOrder runs order → AreWhole order n count left → slice_get order count ≡ Some q
@@ -258,3 +340,37 @@ many_steps (suc k) runs (p ∷ ls) n left q r final o whole e last all =
     let rest = many_steps k mid ls (n - p.length) left q r final (rest_in_order runs there.0 p ls o there.1 step.apart) whole.1 e
     (subst (λ (xs : List Run). IsStep xs left r final) (kept_taken p q runs there.0 before there.1) last) all in
     steps_then runs mid n p (take k ls ++ r ∷ []) final (omega (arith, whole.0)) step rest
+
+-- what is known where the code has put the runs into their order, and knows how many are taken whole and which is the next
+pub record AreSplit (runs order : List Run) (n count left : ℕ) (q : Run) : Type 0 where
+  pub placed : AreInOrder runs order
+  pub whole : AreWhole order n count left
+  pub next : slice_get order count ≡ Some q
+
+-- the order as it is read, and the next run as it is read of it
+pub split_of : (runs order read : List Run) (n count left : ℕ) (q : Run) → AreApart 1 runs → IsOrder runs order → read ≡ order → AreWhole read n count left → q ≡ get_or order count q
+    → AreSplit runs order n count left q
+split_of runs order read n count left q are o same whole is =
+    let of_order : AreWhole order n count left = subst (λ (xs : List Run). AreWhole xs n count left) same whole in
+    record {
+      placed = are_in_order runs order are o;
+      whole = of_order;
+      next = read_there order count q is (whole_within order n count left of_order);
+    }
+
+pub next_there : (runs order : List Run) (n count left : ℕ) (q : Run) → AreSplit runs order n count left q → (j : ℕ) × (slice_get (not_before runs q) j ≡ Some q)
+next_there runs order n count left q s = let there = in_runs runs order count q s.placed s.next in kept_there q runs there.0 there.1
+
+pub split_steps : (runs order : List Run) (n count left : ℕ) (q r : Run) (mid final : List Run) → AreSplit runs order n count left q → mid ≡ not_before runs q → IsStep mid left r final
+    → AreSteps runs n (take count order ++ r ∷ []) final
+split_steps runs order n count left q r mid final s is step =
+    let there = next_there runs order n count left q s in
+    let last : IsStep (not_before runs q) left r final = subst (λ (xs : List Run). IsStep xs left r final) is step in
+    let all = step_takes_all (not_before runs q) there.0 left q r final (kept_apart 1 q runs s.placed.apart) there.1 (whole_enough order n count left q s.whole s.next) last in
+    many_steps count runs order n left q r final s.placed s.whole s.next last all
+
+-- the blocks of the runs from a place on
+pub size_more : (xs : List Run) (i : ℕ) (d : Run) → i < length xs → length (numbers_of (drop i xs)) ≡ (get_or xs i d).length + length (numbers_of (drop (i + 1) xs))
+size_more xs i d less =
+    at_drop_more (λ (ys : List Run). length (numbers_of ys)) xs i d less
+    ∙ omega (arith, length-append (numbers_from (get_or xs i d).first (get_or xs i d).length) (numbers_of (drop (i + 1) xs)), length-numbers_from (get_or xs i d).first (get_or xs i d).length)

@@ -49,15 +49,18 @@ apart_at least [] i r are e = cc
 apart_at least (x ∷ xs) zero r are e = let same : x ≡ r = cc in (subst (λ (y : Run). 1 ≤ y.length) same are.1, subst (λ (y : Run). y.first + y.length ≤ 65536) same are.2, omega arith)
 apart_at least (x ∷ xs) (suc i) r are e = let rest = apart_at (x.first + x.length + 1) xs i r are.3 e in (rest.0, rest.1, omega (arith, rest.2))
 
-pub none_fits : (n : ℕ) (runs : List Run) (i : ℕ) (r : Run) → first_fit n runs ≡ None → slice_get runs i ≡ Some r → r.length ≤ n
-none_fits n [] i r none e = cc
-none_fits n (x ∷ xs) i r none e = by_test (nat_le n x.length) refl none i e (λ j less. none_fits n xs j r less)
+pub all_shorter : (n : ℕ) (runs : List Run) (i : ℕ) (r : Run) → first_fit n runs ≡ None → slice_get runs i ≡ Some r → r.length < n
+all_shorter n [] i r none e = cc
+all_shorter n (x ∷ xs) i r none e = by_test (nat_le n x.length) refl none i e (λ j less. all_shorter n xs j r less)
   where
     by_test : (t : Bool) → nat_le n x.length ≡ t → (if t then Some x else first_fit n xs) ≡ None → (j : ℕ) → slice_get (x ∷ xs) j ≡ Some r
-        → ((k : ℕ) → first_fit n xs ≡ None → slice_get xs k ≡ Some r → r.length ≤ n) → r.length ≤ n
+        → ((k : ℕ) → first_fit n xs ≡ None → slice_get xs k ≡ Some r → r.length < n) → r.length < n
     by_test true is none j e rest = cc
-    by_test false is none zero e rest = let same : x ≡ r = cc in subst (λ (y : Run). y.length ≤ n) same (let le : x.length ≤ n = grind (arith, nat_tests, is) in le)
+    by_test false is none zero e rest = let same : x ≡ r = cc in subst (λ (y : Run). y.length < n) same (let le : x.length < n = grind (arith, nat_tests, is) in le)
     by_test false is none (suc j) e rest = rest j none e
+
+pub none_fits : (n : ℕ) (runs : List Run) (i : ℕ) (r : Run) → first_fit n runs ≡ None → slice_get runs i ≡ Some r → r.length ≤ n
+none_fits n runs i r none e = omega (arith, all_shorter n runs i r none e)
 
 pub take_at_whole : (runs : List Run) (i : ℕ) (r : Run) (n : ℕ) → slice_get runs i ≡ Some r → n ≡ r.length → take_at runs i n ≡ remove runs i
 take_at_whole [] i r n e same = cc

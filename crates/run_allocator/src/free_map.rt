@@ -95,8 +95,10 @@ impl FreeMap {
 
     /// Takes n blocks by the rule. One block is taken from the lowest run, without a look at any other.
     ///
-    /// Where a run is long enough, the runs up to the lowest such are looked at once. Where none is, all runs are copied once,
-    /// the copy is sorted in place, and the runs are passed at most four times more, however many are taken.
+    /// Where a run is long enough, the runs up to the lowest such are looked at once.
+    ///
+    /// Else the runs are passed five times, however many are taken: to see that none is long enough, to copy them, to count
+    /// those that are taken whole, to drop these, and to find the last piece. The copy is sorted once, in place.
     pub fn take_run(&mut self, n: u32) -> Result<RunList, TakeFault>
         requires { 1 ≤ n }
         ensures taken { IfOk result (λ runs. runs ≡ taken_runs self.old n) }
