@@ -2,7 +2,7 @@ pub mod Places
 pub mod Cache
 pub mod Selection
 pub mod Select
-pub mod Charge
+pub mod LogUse
 pub mod Space
 pub mod Machine
 pub mod Done
