@@ -14,3 +14,5 @@ pub mod Legal
 pub mod Short
 pub mod Whole
 pub mod Laws
+pub mod ReportLaws
+pub mod CacheLaws
