@@ -5,13 +5,13 @@ use Rattle.std.specs.List.{list_any, AllByRecursion, flat_map}
 use Rattle.std.proofs.lemmas.List.{map-append}
 use Rattle.std.proofs.lemmas.List.Concat.{flat_map-cons}
 use Rattle.std.proofs.lemmas.Bool.Decides.{nat_tests}
-use Rattle.block_format.specs.Inode.{inode_in, inode_bytes, inode_shape}
+use Rattle.block_format.specs.Inode.{inode_in, inode_bytes, inode_shape, pointer_of}
 use Rattle.block_format.specs.declared.inode.Inode.{Inode}
 use Rattle.block_tree.specs.Tree.{Blocks, nonzero}
 use Rattle.block_tree.proofs.Groups.{AllAre, AllFrom, from_append, are_from, from_less, group_first}
 use Rattle.place_words.specs.Different.{different}
-use Rattle.image_model.specs.Met.{not_inode, NoFaults}
-use Rattle.image_model.specs.Walk.{is_used, is_good, bad_met, block_met, blocks_met, inodes_from, blocks_inodes, nodes_of}
+use Rattle.image_model.specs.Met.{not_inode, stray, NoFaults}
+use Rattle.image_model.specs.Walk.{is_used, is_good, is_pointer_wrong, bad_met, block_met, blocks_met, inodes_from, blocks_inodes, nodes_of}
 use Rattle.image_model.proofs.TreeLaws.{first_faults, other_faults}
 
 -- the groups of 64 that nodes lie in
@@ -65,6 +65,12 @@ good_none : (t : Bool) (n : ℕ) → NoFaults (cond t [] (not_inode n ∷ [])) �
 good_none true n none = (refl, refl)
 good_none false n none = absurd none.0
 
+-- an inode that isn't good is a fault, whichever
+fault_none : (t u : Bool) (n p : ℕ) → NoFaults (cond t [] (cond u (stray n p ∷ []) (not_inode n ∷ []))) → (t ≡ true) × (cond t [] (cond u (stray n p ∷ []) (not_inode n ∷ [])) ≡ [])
+fault_none true u n p none = (refl, refl)
+fault_none false true n p none = absurd none.0
+fault_none false false n p none = absurd none.0
+
 with_shape : (t : Bool) (n : ℕ) (inode : Inode) (nodes : List (ℕ × Inode)) → inode_shape inode ≡ true → (t ≡ true → 1 ≤ n) → HasShapes nodes → HasShapes (cond t ((n, inode) ∷ nodes) nodes)
 with_shape true n inode nodes is low all = ((is, low refl), all)
 with_shape false n inode nodes is low all = all
@@ -84,7 +90,7 @@ each_good [] none = (tt, refl)
 each_good ((n, bytes) ∷ inodes) none =
     let cons = flat_map-cons bad_met (n, bytes) inodes in
     let parts : NoFaults (bad_met (n, bytes) ++ flat_map bad_met inodes) = subst NoFaults cons none in
-    let here = good_none (is_good (n, bytes)) n (first_faults (bad_met (n, bytes)) (flat_map bad_met inodes) parts) in
+    let here = fault_none (is_good (n, bytes)) (is_pointer_wrong (n, bytes)) n (pointer_of (inode_in bytes)) (first_faults (bad_met (n, bytes)) (flat_map bad_met inodes) parts) in
     let more = each_good inodes (other_faults (bad_met (n, bytes)) (flat_map bad_met inodes) parts) in
     let shape : inode_shape (inode_in bytes) ≡ true = shape_first _ _ _ here.0 in
     (with_shape (is_used (inode_in bytes)) n (inode_in bytes) (nodes_of inodes) shape (not_zero n (is_used (inode_in bytes)) (shape_last (inode_shape (inode_in bytes)) (bytes_eq (inode_bytes (inode_in bytes)) bytes) (not (n == 0 && is_used (inode_in bytes))) here.0)) more.0, cons ∙ (λ i. here.1 i ++ more.1 i))

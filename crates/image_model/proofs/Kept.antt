@@ -10,7 +10,7 @@ use Rattle.vol_numbers.specs.Block.{zero_block}
 use Rattle.vol_numbers.specs.declared.block.Block.{Block}
 use Rattle.disk_model.specs.Disk.{State, IsImage}
 use Rattle.root_switch.specs.Current.{root_of_image, current_slot}
-use Rattle.image_model.specs.Met.{Met, index, page, content, past, empty, not_inode, points_at, pointers_to}
+use Rattle.image_model.specs.Met.{Met, index, page, content, past, empty, not_inode, points_at, pointers_to, stray}
 use Rattle.block_tree.specs.Tree.{Blocks, blocks_in}
 use Rattle.image_model.specs.Walk.{walk}
 use Rattle.image_model.specs.Seen.{seen, seen_from, page_held, content_held, all_held}
@@ -45,6 +45,7 @@ here_same g whole read new is (content n place b) ms good le = pointer_same g wh
 here_same g whole read new is (past b) ms good le = absurd good
 here_same g whole read new is (empty b) ms good le = tt
 here_same g whole read new is (not_inode n) ms good le = tt
+here_same g whole read new is (stray n p) ms good le = tt
 
 all_same : (g : Layout) (whole : List Met) (read new : Blocks) → IsKept g whole read new → (ms : List Met) → AllGood g whole ms → ((p : ℕ) → pointers_to p ms ≤ pointers_to p whole) → AllAgree read new ms
 all_same g whole read new is [] good below = tt

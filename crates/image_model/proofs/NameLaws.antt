@@ -19,18 +19,18 @@ use Rattle.tree_model.specs.Path.{Path, name_eq}
 use Rattle.image_model.specs.declared.finding.Finding.TheVariants.{NotATree}
 use Rattle.image_model.specs.Entries.{Entry, is_of, entry_at, leads, times_named, NamesOnce, entries_in, entries_of}
 use Rattle.image_model.specs.Findings.{walk_finding, mixed_finding, body_finding}
-use Rattle.image_model.specs.Laws.{NamesFound}
 use Rattle.image_model.specs.Met.{Met, index}
 use Rattle.image_model.specs.Nodes.{has_twin, is_entry_name, is_slot_spelled, number_named, names_of, reached_in, is_lost, lost_finding, tail_finding, directory_finding, tree_finding}
 use Rattle.image_model.specs.Planned.{node_trees}
 use Rattle.image_model.specs.Seen.{Seen, Held, seen, seen_from, all_held, page_held}
 use Rattle.image_model.specs.Slots.{slot_pieces, slots_of, slots_from, inode_of, number_in, number_along}
-use Rattle.image_model.specs.Sound.{IsNamed}
+use Rattle.image_model.specs.Sound.{IsNamed, IsSound}
 use Rattle.image_model.specs.Stands.{layout_in}
 use Rattle.image_model.specs.Walk.{is_used, is_directory, nodes_at, blocks_inodes}
-use Rattle.image_model.specs.Laws.{IsSoundButNames}
+use Rattle.image_model.specs.Laws.{NoneFound}
 use Rattle.image_model.proofs.Area.{no_faults}
-use Rattle.image_model.proofs.FindingLaws.{none_found, then_first, then_second}
+use Rattle.image_model.proofs.FindingLaws.{IsSoundButNames, none_found, then_first, then_second}
+use Rattle.image_model.proofs.Strays.{none_stray}
 use Rattle.image_model.proofs.NodePlaces.{numbers_distinct, nodes_used, used_among, directory_pairs, pages_at, is_of as is_of_number}
 use Rattle.image_model.proofs.NodeWalk.{WalkMet, walk_good}
 use Rattle.image_model.proofs.Paths.{one_path, found_times, same_name, name_itself}
@@ -307,7 +307,7 @@ module _ (read : Blocks) (at : ℕ) (homes : List ℕ) (count : ℕ) (g : Layout
   nodes = nodes_at read at
 
   sound : IsSoundButNames g s
-  sound = none_found g s none
+  sound = none_found g s (none_stray read at) none
 
   met : WalkMet read at
   met = walk_good read at (no_faults g s.met s.met sound.pointers)
@@ -456,6 +456,9 @@ module _ (read : Blocks) (at : ℕ) (homes : List ℕ) (count : ℕ) (g : Layout
     one_path = paths_once s (entries_of s nodes) right names_once;
   }
 
-pub names_found : NamesFound
+  pub all_sound : IsSound g s
+  all_sound = record { pointers = sound.pointers; tails = sound.tails; directories = sound.directories; named = names; counts = sound.counts; reserve = sound.reserve }
+
+pub none_found_sound : NoneFound
 unfolding seen
-names_found image none = names (blocks_in image) (root_of_image image).inode_index (root_of_image image).homes (count_blocks (layout_in image)) (layout_in image) none
+none_found_sound image none = all_sound (blocks_in image) (root_of_image image).inode_index (root_of_image image).homes (count_blocks (layout_in image)) (layout_in image) none

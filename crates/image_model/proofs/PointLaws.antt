@@ -12,7 +12,7 @@ use Rattle.volume_model.specs.Machine.{Stored}
 use Rattle.volume_model.specs.Space.{free_blocks}
 use Rattle.image_model.specs.Findings.{is_in_area, free_in}
 use Rattle.image_model.specs.Laws.{AssembledStands}
-use Rattle.image_model.specs.Met.{Met, index, page, content, past, empty, not_inode, metas, files, pointers_to, NoFaults}
+use Rattle.image_model.specs.Met.{Met, index, page, content, past, empty, not_inode, metas, files, pointers_to, NoFaults, stray}
 use Rattle.image_model.specs.Point.{HasPoint, IsAssembled}
 use Rattle.image_model.specs.Seen.{seen}
 use Rattle.block_tree.specs.Tree.{blocks_in}
@@ -66,6 +66,7 @@ metas_in_area g whole (content n place p ∷ ms) good b among = metas_in_area g 
 metas_in_area g whole (past p ∷ ms) good b among = absurd good.0
 metas_in_area g whole (empty p ∷ ms) good b among = absurd good.0
 metas_in_area g whole (not_inode n ∷ ms) good b among = absurd good.0
+metas_in_area g whole (stray n p ∷ ms) good b among = absurd good.0
 
 files_in_area : (g : Layout) (whole ms : List Met) → AllGood g whole ms → (b : ℕ) → is_among (files ms) b ≡ true → is_in_area g b ≡ true
 files_in_area g whole [] good b among = cc
@@ -75,6 +76,7 @@ files_in_area g whole (content n place p ∷ ms) good b among = here_or (λ k. i
 files_in_area g whole (past p ∷ ms) good b among = absurd good.0
 files_in_area g whole (empty p ∷ ms) good b among = absurd good.0
 files_in_area g whole (not_inode n ∷ ms) good b among = absurd good.0
+files_in_area g whole (stray n p ∷ ms) good b among = absurd good.0
 
 -- what makes each pointer good
 pub all_good : (g : Layout) (whole ms : List Met) → NoFaults ms
@@ -92,6 +94,7 @@ all_good g whole (content n place p ∷ ms) none of_metas of_files =
 all_good g whole (past p ∷ ms) none of_metas of_files = absurd none.0
 all_good g whole (empty p ∷ ms) none of_metas of_files = absurd none.0
 all_good g whole (not_inode n ∷ ms) none of_metas of_files = absurd none.0
+all_good g whole (stray n p ∷ ms) none of_metas of_files = absurd none.0
 
 module _ (image : List Block) (s : Stored) (has : IsAssembled image s) where
   pointers_good : AllGood (layout_in image) (seen image).met (seen image).met

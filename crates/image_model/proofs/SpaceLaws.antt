@@ -24,7 +24,7 @@ use Rattle.tree_model.specs.declared.node.Content.TheVariants as tree
 use Rattle.volume_model.specs.Machine.{Stored}
 use Rattle.volume_model.specs.Places.{Places, places_of, blocks_of as blocks_in_places}
 use Rattle.volume_model.specs.Space.{content_blocks, metadata_blocks, free_blocks}
-use Rattle.image_model.specs.Met.{Met, index, page, content, past, empty, not_inode, metas, files, pointers_to}
+use Rattle.image_model.specs.Met.{Met, index, page, content, past, empty, not_inode, metas, files, pointers_to, stray}
 use Rattle.image_model.specs.Walk.{is_used, walk, nodes_at, blocks_inodes}
 use Rattle.image_model.specs.Findings.{free_in}
 use Rattle.image_model.specs.Nodes.{is_bad_directory, AllBelow, blocks_in_node}
@@ -152,6 +152,7 @@ file_blocks read (content n place b ∷ ms) = ap (λ (bs : List ℕ). b ∷ bs) 
 file_blocks read (past b ∷ ms) = file_blocks read ms
 file_blocks read (empty b ∷ ms) = file_blocks read ms
 file_blocks read (not_inode n ∷ ms) = file_blocks read ms
+file_blocks read (stray n p ∷ ms) = file_blocks read ms
 
 tree_groups : (t : Tree) → map (λ (e : Path × Node). e.1.number / 64) t ≡ map (λ n. n / 64) (keys t)
 tree_groups [] = refl

@@ -30,7 +30,7 @@ use Rattle.image_model.specs.Next.{HasNext, and_command}
 use Rattle.image_model.specs.Point.{HasPoint, IsAssembled}
 use Rattle.image_model.specs.Seen.{Seen, seen, counts_from}
 use Rattle.image_model.specs.Nodes.{has_tail, is_bad_directory}
-use Rattle.image_model.specs.Sound.{IsNamed, AllGood}
+use Rattle.image_model.specs.Sound.{IsNamed, IsSound}
 use Rattle.image_model.specs.Stands.{Stands, Logs, Accepts, layout_in, node_along, spot_of, used_in}
 
 abbrev pub OneMeaning : Type 0
@@ -81,21 +81,9 @@ abbrev pub PlanLeads : Type 0
 PlanLeads = (old new : List Block) (before : Stored) (inode : ℕ → Inode) → Stands old before → (plan : IsPlanned old new inode)
     → NoFaults (seen new).met × ((b : ℕ) → times b (metas (seen new).met) ≤ times b (metas (seen old).met) + times b (taken_in plan.for_inodes plan.for_node))
 
--- all that is sound but for the names
-pub record IsSoundButNames (g : Layout) (s : Seen) : Type 0 where
-  pub pointers : AllGood g s.met s.met
-  pub tails : (node : ℕ × Inode) → Contains s.nodes node → has_tail s node ≡ false
-  pub directories : (node : ℕ × Inode) → Contains s.nodes node → is_bad_directory s node ≡ false
-  pub counts : (b : ℕ) → b < 1024 * count_blocks g → get_or s.kept b 0 ≡ pointers_to b s.met
-  pub reserve : 16 ≤ free_in g s.kept
-
--- Where the phases find nothing, all is sound. (The names have a law of their own.)
+-- What is seen of an image in which nothing is found is sound.
 abbrev pub NoneFound : Type 0
-NoneFound = (g : Layout) (s : Seen) → body_finding g s ≡ None → IsSoundButNames g s
-
--- Where the phases find nothing in an image, its used numbers have one path each.
-abbrev pub NamesFound : Type 0
-NamesFound = (image : List Block) → body_finding (layout_in image) (seen image) ≡ None → IsNamed (seen image)
+NoneFound = (image : List Block) → body_finding (layout_in image) (seen image) ≡ None → IsSound (layout_in image) (seen image)
 
 -- An image in which nothing is found stands for a tree, with its places and the records that its log holds, where these are accepted.
 abbrev pub NoneFoundStands : Type 0

@@ -7,7 +7,7 @@ use Rattle.block_format.specs.Root.{Root}
 use Rattle.root_switch.specs.Current.{root_of_image}
 use Rattle.block_format.specs.Words.{words}
 use Rattle.block_format.specs.declared.inode.Inode.{Inode}
-use Rattle.image_model.specs.Met.{Met, index, page, content, past, empty, not_inode}
+use Rattle.image_model.specs.Met.{Met, index, page, content, past, empty, not_inode, stray}
 use Rattle.block_tree.specs.Tree.{Blocks, blocks_in}
 use Rattle.image_model.specs.Walk.{nodes_at, walk}
 
@@ -27,22 +27,17 @@ pub record Held : Type 0 where
   pub block : ℕ
   pub bytes : List ℕ
 
+-- a directory's block that is met, with its bytes
 abbrev pub page_held : Blocks → Met → List Held
 page_held read (page n place b) = record { number = n; place = place; block = b; bytes = read b } ∷ []
-page_held read (index b) = []
-page_held read (content n place b) = []
-page_held read (past b) = []
-page_held read (empty b) = []
-page_held read (not_inode n) = []
+page_held read other = []
 
+-- a file's block that is met, with its bytes
 abbrev pub content_held : Blocks → Met → List Held
 content_held read (content n place b) = record { number = n; place = place; block = b; bytes = read b } ∷ []
-content_held read (index b) = []
-content_held read (page n place b) = []
-content_held read (past b) = []
-content_held read (empty b) = []
-content_held read (not_inode n) = []
+content_held read other = []
 
+-- of all that is met
 abbrev pub all_held : (Met → List Held) → List Met → List Held
 all_held f [] = []
 all_held f (m ∷ ms) = f m ++ all_held f ms
