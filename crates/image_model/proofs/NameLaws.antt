@@ -27,129 +27,18 @@ use Rattle.image_model.specs.Slots.{slot_pieces, slots_of, slots_from, inode_of,
 use Rattle.image_model.specs.Sound.{IsNamed, IsSound}
 use Rattle.image_model.specs.Stands.{layout_in}
 use Rattle.image_model.specs.Walk.{is_used, is_directory, nodes_at, blocks_inodes}
-use Rattle.image_model.specs.Laws.{NoneFound}
+use Rattle.image_model.specs.Exact.{NoneFound}
 use Rattle.image_model.proofs.Area.{no_faults}
 use Rattle.image_model.proofs.FindingLaws.{IsSoundButNames, none_found, then_first, then_second}
 use Rattle.image_model.proofs.Strays.{none_stray}
+use Rattle.image_model.proofs.Naming.{names_are, times_mapped, last_step, along_leads, paths_once, all_named, out_times, right, directory_fine, all_in, root_used, used_limits, AllNamed}
 use Rattle.image_model.proofs.NodePlaces.{numbers_distinct, nodes_used, used_among, directory_pairs, pages_at, is_of as is_of_number}
 use Rattle.image_model.proofs.NodeWalk.{WalkMet, walk_good}
 use Rattle.image_model.proofs.Paths.{one_path, found_times, same_name, name_itself}
 use Rattle.image_model.proofs.PlanLaws.{nodes_limits}
 use Rattle.image_model.proofs.SpaceLaws.{node_there}
 
--- ---- slots and entries
-
--- what the slots of a directory have under a name, its entries have
-in_entries : (d : ℕ) (ss : List Slot) (name : List ℕ) → entry_at (entries_in d ss) d name ≡ number_in ss name
-in_entries d [] name = refl
-in_entries d (slots.Unused ∷ ss) name = in_entries d ss name
-in_entries d (slots.Entry number other ∷ ss) name =
-    let same : (d == d) ≡ true = grind (arith, nat_tests) in
-    (λ i. cond (same i && name_eq other name) (Some number) (entry_at (entries_in d ss) d name)) ∙ ap (λ (o : Option ℕ). cond (name_eq other name) (Some number) o) (in_entries d ss name)
-
--- entries of another directory don't count
-other_entries : (c d : ℕ) → (c == d) ≡ false → (ss : List Slot) (rest : List Entry) (name : List ℕ) → entry_at (entries_in c ss ++ rest) d name ≡ entry_at rest d name
-other_entries c d apart [] rest name = refl
-other_entries c d apart (slots.Unused ∷ ss) rest name = other_entries c d apart ss rest name
-other_entries c d apart (slots.Entry number other ∷ ss) rest name = ap (λ (t : Bool). cond (t && name_eq other name) (Some number) (entry_at (entries_in c ss ++ rest) d name)) apart ∙ other_entries c d apart ss rest name
-
-or_else : {A : Type 0} → Option A → Option A → Option A
-or_else None b = b
-or_else (Some x) b = Some x
-
-front_entries : (es rest : List Entry) (d : ℕ) (name : List ℕ) → entry_at (es ++ rest) d name ≡ or_else (entry_at es d name) (entry_at rest d name)
-unfolding or_else
-front_entries [] rest d name = refl
-front_entries (e ∷ es) rest d name = by (is_of d name e) (front_entries es rest d name)
-  where
-    by : (t : Bool) → entry_at (es ++ rest) d name ≡ or_else (entry_at es d name) (entry_at rest d name) → cond t (Some e.number) (entry_at (es ++ rest) d name) ≡ or_else (cond t (Some e.number) (entry_at es d name)) (entry_at rest d name)
-    by true more = refl
-    by false more = more
-
-or_none : {A : Type 0} (o : Option A) → or_else o None ≡ o
-unfolding or_else
-or_none None = refl
-or_none (Some x) = refl
-
-module _ (s : Seen) where
-  no_entry : (d : ℕ) (name : List ℕ) (nodes : List (ℕ × Inode)) → is_among (map (λ (node : ℕ × Inode). node.0) nodes) d ≡ false → entry_at (entries_of s nodes) d name ≡ None
-  no_entry d name [] out = refl
-  no_entry d name (node ∷ nodes) out = by (nat_eq node.0 d) refl out (no_entry d name nodes)
-    where
-      by : (t : Bool) → nat_eq node.0 d ≡ t → (t || is_among (map (λ (node : ℕ × Inode). node.0) nodes) d) ≡ false
-          → (is_among (map (λ (node : ℕ × Inode). node.0) nodes) d ≡ false → entry_at (entries_of s nodes) d name ≡ None) → entry_at (entries_of s (node ∷ nodes)) d name ≡ None
-      by true is out more = cc
-      by false is out more =
-          ap (λ (es : List Entry). entry_at es d name) (flat_map-cons (λ (node : ℕ × Inode). entries_in node.0 (slots_of s node.0)) node nodes)
-          ∙ other_entries node.0 d is (slots_of s node.0) (entries_of s nodes) name ∙ more out
-
-  -- what a directory's slots have under a name, all entries have, where each directory with slots is a node
-  entries_right : (nodes : List (ℕ × Inode)) → Distinct (map (λ (node : ℕ × Inode). node.0) nodes) → (d : ℕ) (name : List ℕ)
-      → (is_among (map (λ (node : ℕ × Inode). node.0) nodes) d ≡ false → number_in (slots_of s d) name ≡ None) → entry_at (entries_of s nodes) d name ≡ number_in (slots_of s d) name
-  entries_right [] distinct d name none = sym (none refl)
-  entries_right (node ∷ nodes) distinct d name none = by (nat_eq node.0 d) refl none (entries_right nodes distinct.1 d name)
-    where
-      whole : entry_at (entries_of s (node ∷ nodes)) d name ≡ entry_at (entries_in node.0 (slots_of s node.0) ++ entries_of s nodes) d name
-      whole = ap (λ (es : List Entry). entry_at es d name) (flat_map-cons (λ (node : ℕ × Inode). entries_in node.0 (slots_of s node.0)) node nodes)
-
-      by : (t : Bool) → nat_eq node.0 d ≡ t → ((t || is_among (map (λ (node : ℕ × Inode). node.0) nodes) d) ≡ false → number_in (slots_of s d) name ≡ None)
-          → ((is_among (map (λ (node : ℕ × Inode). node.0) nodes) d ≡ false → number_in (slots_of s d) name ≡ None) → entry_at (entries_of s nodes) d name ≡ number_in (slots_of s d) name)
-          → entry_at (entries_of s (node ∷ nodes)) d name ≡ number_in (slots_of s d) name
-      by true is none more =
-          let e : node.0 ≡ d = grind (arith, nat_tests) in
-          let out : is_among (map (λ (node : ℕ × Inode). node.0) nodes) d ≡ false = subst (λ (k : ℕ). is_among (map (λ (node : ℕ × Inode). node.0) nodes) k ≡ false) e distinct.0 in
-          whole ∙ ap (λ (k : ℕ). entry_at (entries_in k (slots_of s k) ++ entries_of s nodes) d name) e
-          ∙ front_entries (entries_in d (slots_of s d)) (entries_of s nodes) d name
-          ∙ (λ i. or_else (in_entries d (slots_of s d) name i) (no_entry d name nodes out i)) ∙ or_none (number_in (slots_of s d) name)
-      by false is none more = whole ∙ other_entries node.0 d is (slots_of s node.0) (entries_of s nodes) name ∙ more none
-
-  -- ---- paths from their ends
-
-  last_step : (path : Path) (n : ℕ) (name : List ℕ) → number_along s n (path ++ name ∷ []) ≡ option_and_then (λ d. number_in (slots_of s d) name) (number_along s n path)
-  last_step [] n name = by (number_in (slots_of s n) name)
-    where
-      by : (o : Option ℕ) → option_and_then (λ m. Some m) o ≡ o
-      by None = refl
-      by (Some m) = refl
-  last_step (first ∷ path) n name = by (number_in (slots_of s n) first) (λ m. last_step path m name)
-    where
-      by : (o : Option ℕ) → ((m : ℕ) → number_along s m (path ++ name ∷ []) ≡ option_and_then (λ d. number_in (slots_of s d) name) (number_along s m path))
-          → option_and_then (λ m. number_along s m (path ++ name ∷ [])) o ≡ option_and_then (λ d. number_in (slots_of s d) name) (option_and_then (λ m. number_along s m path) o)
-      by None more = refl
-      by (Some m) more = more m
-
-  module _ (es : List Entry) (right : (d : ℕ) (name : List ℕ) → entry_at es d name ≡ number_in (slots_of s d) name) where
-    leads_right : (up : Path) → leads es up ≡ number_along s 1 (reverse up)
-    leads_right [] = refl
-    leads_right (name ∷ up) =
-        (λ i. option_and_then (λ d. right d name i) (leads_right up i)) ∙ sym (last_step (reverse up) 1 name) ∙ ap (number_along s 1) (sym (reverse-append (name ∷ []) up))
-
-    along_leads : (path : Path) → number_along s 1 path ≡ leads es (reverse path)
-    along_leads path = ap (number_along s 1) (sym (reverse-reverse path)) ∙ sym (leads_right (reverse path))
-
-    paths_once : NamesOnce es → (p q : Path) (n : ℕ) → number_along s 1 p ≡ Some n → number_along s 1 q ≡ Some n → p ≡ q
-    paths_once once p q n a b =
-        sym (reverse-reverse p) ∙ ap reverse (one_path es once (reverse p) (reverse q) n (sym (along_leads p) ∙ a) (sym (along_leads q) ∙ b)) ∙ reverse-reverse q
-
--- ---- numbers that are named
-
-names_in : (d : ℕ) (ss : List Slot) → filter_map number_named ss ≡ map (λ (e : Entry). e.number) (entries_in d ss)
-names_in d [] = refl
-names_in d (slots.Unused ∷ ss) = names_in d ss
-names_in d (slots.Entry number name ∷ ss) = ap (λ (ns : List ℕ). number ∷ ns) (names_in d ss)
-
-names_are : (s : Seen) (nodes : List (ℕ × Inode)) → names_of s nodes ≡ map (λ (e : Entry). e.number) (entries_of s nodes)
-names_are s [] = refl
-names_are s (node ∷ nodes) =
-    flat_map-cons (λ (node : ℕ × Inode). filter_map number_named (slots_of s node.0)) node nodes
-    ∙ (λ i. names_in node.0 (slots_of s node.0) i ++ names_are s nodes i)
-    ∙ sym (map-append (λ (e : Entry). e.number) (entries_in node.0 (slots_of s node.0)) (entries_of s nodes))
-    ∙ ap (map (λ (e : Entry). e.number)) (sym (flat_map-cons (λ (node : ℕ × Inode). entries_in node.0 (slots_of s node.0)) node nodes))
-
-times_mapped : (es : List Entry) (n : ℕ) → count_by (λ m. m == n) (map (λ (e : Entry). e.number) es) ≡ times_named es n
-times_mapped [] n = refl
-times_mapped (e ∷ es) n =
-    sum_by-cons (λ (m : ℕ). cond (m == n) 1 0) e.number (map (λ (e : Entry). e.number) es) ∙ ap (λ (k : ℕ). cond (e.number == n) 1 0 + k) (times_mapped es n) ∙ sym (sum_by-cons (λ (e : Entry). cond (e.number == n) 1 0) e es)
+-- ---- numbers that are lost
 
 lost_none : (s : Seen) (named reached : List ℕ) (from k : ℕ) → lost_finding s named reached from k ≡ None → (j : ℕ) → j < k → is_lost s named reached (from + j) ≡ false
 lost_none s named reached from zero none j lt = absurd (omega arith)
@@ -204,99 +93,6 @@ not_lost used n times reached none =
     by_there true false none is = cc
     by_there false t none is = cc
 
--- ---- slots without twins
-
-found_name : (ss : List Slot) (name : List ℕ) (n : ℕ) → number_in ss name ≡ Some n → list_any (is_entry_name name) ss ≡ true
-found_name [] name n found = cc
-found_name (slots.Unused ∷ ss) name n found = found_name ss name n found
-found_name (slots.Entry number other ∷ ss) name n found = by (name_eq other name) refl found (found_name ss name n)
-  where
-    later : (a b : Bool) → b ≡ true → (a || b) ≡ true
-    later true b e = refl
-    later false b e = e
-
-    by : (t : Bool) → name_eq other name ≡ t → cond t (Some number) (number_in ss name) ≡ Some n → (number_in ss name ≡ Some n → list_any (is_entry_name name) ss ≡ true) → (name_eq name other || list_any (is_entry_name name) ss) ≡ true
-    by true is found more = let e = same_name other name is in ap (λ (t : Bool). t || list_any (is_entry_name name) ss) (ap (name_eq name) e ∙ name_itself name)
-    by false is found more = later (name_eq name other) _ (more found)
-
-abbrev AllNamed : List Slot → List ℕ → Type 0
-AllNamed ss ns = AllByRecursion (λ (n : ℕ). (name : List ℕ) × (number_in ss name ≡ Some n)) ns
-
-behind_entry : (number : ℕ) (other : List ℕ) (ss : List Slot) → list_any (is_entry_name other) ss ≡ false → (ns : List ℕ) → AllNamed ss ns → AllNamed (slots.Entry number other ∷ ss) ns
-behind_entry number other ss none [] all = tt
-behind_entry number other ss none (n ∷ ns) all = ((all.0.0, by (name_eq other all.0.0) refl), behind_entry number other ss none ns all.1)
-  where
-    by : (t : Bool) → name_eq other all.0.0 ≡ t → cond t (Some number) (number_in ss all.0.0) ≡ Some n
-    by true is =
-        let e = same_name other all.0.0 is in
-        let twin : list_any (is_entry_name other) ss ≡ true = found_name ss other n (ap (number_in ss) e ∙ all.0.1) in
-        cc
-    by false is = all.0.1
-
-all_named : (ss : List Slot) → has_twin ss ≡ false → AllNamed ss (filter_map number_named ss)
-all_named [] none = tt
-all_named (slots.Unused ∷ ss) none = unused_more (filter_map number_named ss) (all_named ss none)
-  where
-    unused_more : (ns : List ℕ) → AllNamed ss ns → AllNamed (slots.Unused ∷ ss) ns
-    unused_more [] all = tt
-    unused_more (n ∷ ns) all = (all.0, unused_more ns all.1)
-all_named (slots.Entry number name ∷ ss) none =
-    let parts = or_parts (list_any (is_entry_name name) ss) (has_twin ss) none in
-    ((name, ap (λ (t : Bool). cond t (Some number) (number_in ss name)) (name_itself name)), behind_entry number name ss parts.0 (filter_map number_named ss) (all_named ss parts.1))
-
--- ---- numbers are within their limits
-
-abbrev AllIn : List Entry → Type 0
-AllIn es = AllByRecursion (λ (e : Entry). (1 ≤ e.number) × (e.number ≤ 65535)) es
-
-in_append : (xs ys : List Entry) → AllIn xs → AllIn ys → AllIn (xs ++ ys)
-in_append [] ys a b = b
-in_append (x ∷ xs) ys a b = (a.0, in_append xs ys a.1 b)
-
-out_times : (es : List Entry) → AllIn es → (n : ℕ) → 1 ≤ times_named es n → (1 ≤ n) × (n ≤ 65535)
-out_times [] all n some = absurd (omega arith)
-out_times (e ∷ es) all n some = by (e.number == n) refl (out_times es all.1 n)
-  where
-    by : (t : Bool) → (e.number == n) ≡ t → (1 ≤ times_named es n → (1 ≤ n) × (n ≤ 65535)) → (1 ≤ n) × (n ≤ 65535)
-    by true is more = let same : e.number ≡ n = eqb-true e.number n is in (omega (arith, same, all.0.0), omega (arith, same, all.0.1))
-    by false is more = let weight : Bool → ℕ = λ t. cond t 1 0 in more (omega (arith, some, ap weight is, sum_by-cons (λ (x : Entry). cond (x.number == n) 1 0) e es))
-
-four_parts : (a b c d : Bool) → (((a && b) && c) && d) ≡ true → (a ≡ true) × (b ≡ true)
-four_parts true true c d e = (refl, refl)
-four_parts true false c d e = cc
-four_parts false b c d e = cc
-
-and_parts : (a b : Bool) → (a && b) ≡ true → (a ≡ true) × (b ≡ true)
-and_parts true b e = (refl, e)
-and_parts false b e = cc
-
-spelled_in : (d : ℕ) (pieces : List (Slot × List ℕ)) → list_all (λ (p : Slot × List ℕ). is_slot_spelled p.0 p.1) pieces ≡ true → AllIn (entries_in d (map (λ (p : Slot × List ℕ). p.0) pieces))
-spelled_in d [] all = tt
-spelled_in d ((slots.Unused, bytes) ∷ pieces) all = spelled_in d pieces (and_parts _ _ all).1
-spelled_in d ((slots.Entry number name, bytes) ∷ pieces) all =
-    let parts = and_parts (is_slot_spelled (slots.Entry number name) bytes) (list_all (λ (p : Slot × List ℕ). is_slot_spelled p.0 p.1) pieces) all in
-    let limits = four_parts (nat_le 1 number) (nat_le number 65535) _ _ parts.0 in
-    ((let low = limits.0 in grind (arith, nat_tests), let high = limits.1 in grind (arith, nat_tests)), spelled_in d pieces parts.1)
-
--- ---- pages of a number
-
-no_pieces : (pages : List Held) (n : ℕ) → count_by (λ h. h.number == n) pages ≡ 0 → slot_pieces pages n ≡ []
-no_pieces [] n none = refl
-no_pieces (h ∷ pages) n none = by (h.number == n) refl (no_pieces pages n)
-  where
-    cons : count_by (λ (h : Held). h.number == n) (h ∷ pages) ≡ cond (h.number == n) 1 0 + count_by (λ (h : Held). h.number == n) pages
-    cons = sum_by-cons (λ (h : Held). cond (h.number == n) 1 0) h pages
-
-    by : (t : Bool) → (h.number == n) ≡ t → (count_by (λ (h : Held). h.number == n) pages ≡ 0 → slot_pieces pages n ≡ []) → (cond t (slots_from 16 h.bytes) [] ++ slot_pieces pages n) ≡ []
-    by true is more = let weight : Bool → ℕ = λ t. cond t 1 0 in absurd (omega (arith, none, cons, ap weight is))
-    by false is more = more (omega (arith, none, cons))
-
-bad_parts : (a b c d : Bool) → (((not a || not b) || not c) || d) ≡ false → (b ≡ true) × (d ≡ false)
-bad_parts true true true d e = (refl, e)
-bad_parts true true false d e = cc
-bad_parts true false c d e = cc
-bad_parts false b c d e = cc
-
 -- ---- an image in which the phases find nothing
 
 module _ (read : Blocks) (at : ℕ) (homes : List ℕ) (count : ℕ) (g : Layout) (none : body_finding g (seen_from read at homes count) ≡ None) where
@@ -308,9 +104,6 @@ module _ (read : Blocks) (at : ℕ) (homes : List ℕ) (count : ℕ) (g : Layout
 
   sound : IsSoundButNames g s
   sound = none_found g s (none_stray read at) none
-
-  met : WalkMet read at
-  met = walk_good read at (no_faults g s.met s.met sound.pointers)
 
   tree_none : tree_finding s ≡ None
   unfolding body_finding
@@ -333,52 +126,6 @@ module _ (read : Blocks) (at : ℕ) (homes : List ℕ) (count : ℕ) (g : Layout
       let times : count_by (λ m. m == n) (names_of s nodes) ≡ times_named (entries_of s nodes) n = ap (count_by (λ m. m == n)) (names_are s nodes) ∙ times_mapped (entries_of s nodes) n in
       subst (λ (k : ℕ). NotLost (is_used (inode_of nodes n)) n k reached) times (not_lost (is_used (inode_of nodes n)) n (count_by (λ m. m == n) (names_of s nodes)) reached here)
 
-  -- only directories have slots
-  pages_of : (n : ℕ) → count_by (is_of_number n) s.pages ≡ length (directory_pairs read (inode_of nodes n))
-  pages_of n = ap (λ (ms : List Met). count_by (is_of_number n) (all_held (page_held read) ms)) met.is ∙ skip_index (nonzero (index_at read at)) ∙ pages_at read n nodes (numbers_distinct read at)
-    where
-      skip_index : (bs : List ℕ) → count_by (is_of_number n) (all_held (page_held read) (map index bs ++ flat_map (node_trees read) nodes)) ≡ count_by (is_of_number n) (all_held (page_held read) (flat_map (node_trees read) nodes))
-      skip_index [] = refl
-      skip_index (b ∷ bs) = skip_index bs
-
-  no_slots : (d : ℕ) → length (directory_pairs read (inode_of nodes d)) ≡ 0 → slots_of s d ≡ []
-  no_slots d zero_pairs = ap (map (λ (p : Slot × List ℕ). p.0)) (no_pieces s.pages d (pages_of d ∙ zero_pairs))
-
-  -- a number is a directory, or has no slots
-  directory_fine : (d : ℕ) → (x : Inode) → inode_of nodes d ≡ x → AllIn (entries_in d (slots_of s d)) × (has_twin (slots_of s d) ≡ false)
-  directory_fine d Unused is = let e = no_slots d (ap (λ (x : Inode). length (directory_pairs read x)) is) in (subst (λ (ss : List Slot). AllIn (entries_in d ss)) (sym e) tt, ap has_twin e)
-  directory_fine d (File size height ptr) is = let e = no_slots d (ap (λ (x : Inode). length (directory_pairs read x)) is) in (subst (λ (ss : List Slot). AllIn (entries_in d ss)) (sym e) tt, ap has_twin e)
-  directory_fine d (Directory width height ptr) is =
-      let used : is_used (inode_of nodes d) ≡ true = ap is_used is in
-      let there : Contains nodes (d, Directory width height ptr) = subst (λ (x : Inode). Contains nodes (d, x)) is (node_there nodes d used) in
-      let fine = bad_parts _ _ _ _ (sound.directories (d, Directory width height ptr) there) in
-      (spelled_in d (slot_pieces s.pages d) fine.0, fine.1)
-
-  all_in : (ns : List (ℕ × Inode)) → AllIn (entries_of s ns)
-  all_in [] = tt
-  all_in (node ∷ ns) = subst AllIn (sym (flat_map-cons (λ (node : ℕ × Inode). entries_in node.0 (slots_of s node.0)) node ns)) (in_append _ _ (directory_fine node.0 (inode_of nodes node.0) refl).0 (all_in ns))
-
-  right : (d : ℕ) (name : List ℕ) → entry_at (entries_of s nodes) d name ≡ number_in (slots_of s d) name
-  right d name = entries_right s nodes (numbers_distinct read at) d name (λ out. ap (λ (ss : List Slot). number_in ss name) (no_slots d (unused_pairs (inode_of nodes d) (used_among nodes (nodes_used (blocks_inodes read 0 (index_at read at))) d ∙ out))))
-    where
-      unused_pairs : (x : Inode) → is_used x ≡ false → length (directory_pairs read x) ≡ 0
-      unused_pairs Unused e = refl
-      unused_pairs (File size height ptr) e = cc
-      unused_pairs (Directory width height ptr) e = cc
-
-  -- the root is used
-  root_used : is_used (inode_of nodes 1) ≡ true
-  root_used = used_among nodes (nodes_used (blocks_inodes read 0 (index_at read at))) 1 ∙ root_among nodes met.root
-    where
-      root_among : (ns : List (ℕ × Inode)) → list_any (λ (node : ℕ × Inode). node.0 == 1 && is_directory node.1) ns ≡ true → is_among (map (λ (node : ℕ × Inode). node.0) ns) 1 ≡ true
-      root_among [] any = cc
-      root_among (node ∷ ns) any = by (node.0 == 1) (is_directory node.1) any (root_among ns)
-        where
-          by : (t u : Bool) → ((t && u) || list_any (λ (node : ℕ × Inode). node.0 == 1 && is_directory node.1) ns) ≡ true → (list_any (λ (node : ℕ × Inode). node.0 == 1 && is_directory node.1) ns ≡ true → is_among (map (λ (node : ℕ × Inode). node.0) ns) 1 ≡ true)
-              → (t || is_among (map (λ (node : ℕ × Inode). node.0) ns) 1) ≡ true
-          by true u any more = refl
-          by false u any more = more any
-
   names_once : NamesOnce (entries_of s nodes)
   names_once = record {
     root = (told 1 (omega arith) (omega arith)).root refl;
@@ -387,7 +134,7 @@ module _ (read : Blocks) (at : ℕ) (homes : List ℕ) (count : ℕ) (g : Layout
     where
       one : (n k : ℕ) → times_named (entries_of s nodes) n ≡ suc k → times_named (entries_of s nodes) n ≤ 1
       one n k is =
-          let limits = out_times (entries_of s nodes) (all_in nodes) n (omega (arith, is)) in
+          let limits = out_times (entries_of s nodes) (all_in read at homes count g sound.pointers sound.directories nodes) n (omega (arith, is)) in
           let fact = told n limits.0 limits.1 in
           let used = fact.unused (omega (arith, is)) in
           let not_root : 2 ≤ n = high n fact is limits.0 in
@@ -404,14 +151,14 @@ module _ (read : Blocks) (at : ℕ) (homes : List ℕ) (count : ℕ) (g : Layout
 
   -- what a path leads to is used
   led_used : (up : Path) (n : ℕ) → leads (entries_of s nodes) up ≡ Some n → is_used (inode_of nodes n) ≡ true
-  led_used [] n led = let e : 1 ≡ n = cc in subst (λ (k : ℕ). is_used (inode_of nodes k) ≡ true) e root_used
+  led_used [] n led = let e : 1 ≡ n = cc in subst (λ (k : ℕ). is_used (inode_of nodes k) ≡ true) e (root_used read at homes count g sound.pointers sound.directories)
   led_used (name ∷ up) n led = by (leads (entries_of s nodes) up) led
     where
       by : (o : Option ℕ) → option_and_then (λ d. entry_at (entries_of s nodes) d name) o ≡ Some n → is_used (inode_of nodes n) ≡ true
       by None is = cc
       by (Some d) is =
           let some_times = found_times (entries_of s nodes) d name n is in
-          let limits = out_times (entries_of s nodes) (all_in nodes) n some_times in
+          let limits = out_times (entries_of s nodes) (all_in read at homes count g sound.pointers sound.directories nodes) n some_times in
           (told n limits.0 limits.1).unused some_times
 
   -- ---- what is reached has a path
@@ -432,7 +179,7 @@ module _ (read : Blocks) (at : ℕ) (homes : List ℕ) (count : ℕ) (g : Layout
   all_further [] all = tt
   all_further (d ∷ ds) all =
       subst AllPaths (sym (flat_map-cons (λ n. filter_map number_named (slots_of s n)) d ds))
-      (paths_append _ _ (one_further d all.0.0 all.0.1 (filter_map number_named (slots_of s d)) (all_named (slots_of s d) (directory_fine d (inode_of nodes d) refl).1)) (all_further ds all.1))
+      (paths_append _ _ (one_further d all.0.0 all.0.1 (filter_map number_named (slots_of s d)) (all_named (slots_of s d) (directory_fine read at homes count g sound.pointers sound.directories d (inode_of nodes d) refl).1)) (all_further ds all.1))
 
   all_reached : (k : ℕ) → AllPaths (reached_in s k)
   all_reached zero = (([], refl), tt)
@@ -446,14 +193,11 @@ module _ (read : Blocks) (at : ℕ) (homes : List ℕ) (count : ℕ) (g : Layout
       by true is any more = (all.0.0, all.0.1 ∙ ap (λ (k : ℕ). Some k) (eqb-true m n is))
       by false is any more = more any
 
-  used_limits : (n : ℕ) → is_used (inode_of nodes n) ≡ true → (1 ≤ n) × (n ≤ 65535)
-  used_limits n used = nodes_limits read at met.shapes n (sym (used_among nodes (nodes_used (blocks_inodes read 0 (index_at read at))) n) ∙ used)
-
   pub names : IsNamed s
   names = record {
-    used = λ path n along. led_used (reverse path) n (sym (along_leads s (entries_of s nodes) right path) ∙ along);
-    reached = λ n used. let limits = used_limits n used in path_of reached (all_reached (length nodes)) n ((told n limits.0 limits.1).there used);
-    one_path = paths_once s (entries_of s nodes) right names_once;
+    used = λ path n along. led_used (reverse path) n (sym (along_leads s (entries_of s nodes) (right read at homes count g sound.pointers sound.directories) path) ∙ along);
+    reached = λ n used. let limits = used_limits read at homes count g sound.pointers sound.directories n used in path_of reached (all_reached (length nodes)) n ((told n limits.0 limits.1).there used);
+    one_path = paths_once s (entries_of s nodes) (right read at homes count g sound.pointers sound.directories) names_once;
   }
 
   pub all_sound : IsSound g s

@@ -81,16 +81,6 @@ abbrev pub PlanLeads : Type 0
 PlanLeads = (old new : List Block) (before : Stored) (inode : ℕ → Inode) → Stands old before → (plan : IsPlanned old new inode)
     → NoFaults (seen new).met × ((b : ℕ) → times b (metas (seen new).met) ≤ times b (metas (seen old).met) + times b (taken_in plan.for_inodes plan.for_node))
 
--- What is seen of an image in which nothing is found is sound.
-abbrev pub NoneFound : Type 0
-NoneFound = (image : List Block) → body_finding (layout_in image) (seen image) ≡ None → IsSound (layout_in image) (seen image)
-
--- An image in which nothing is found stands for a tree, with its places and the records that its log holds, where these are accepted.
-abbrev pub NoneFoundStands : Type 0
-NoneFoundStands = (image : List Block) → HasRoot image → FitsImage image → body_finding (layout_in image) (seen image) ≡ None → (tree : Tree) × ((records : List Command) →
-    Logs image (record { layout = layout_in image; tree = tree; places = map spot_of (seen image).contents; records = records; point = (root_of_image image).point })
-    → Stands image (record { layout = layout_in image; tree = tree; places = map spot_of (seen image).contents; records = records; point = (root_of_image image).point }))
-
 -- What a format leaves stands for the root directory alone.
 abbrev pub FreshStands : Type 0
 FreshStands = (g : Layout) (image : List Block) → IsFresh g image → Stands image (fresh_stored g)

@@ -2,7 +2,7 @@ use Rattle.std.proofs.Common.{refl}
 use Rattle.image_model.specs.Seen.{seen}
 use Rattle.image_model.proofs.NameLaws.{none_found_sound}
 use Rattle.image_model.proofs.TreeBuilt.{tree_exists}
-use Rattle.image_model.proofs.meaning.none_found_stands.Goals as goal
+use Rattle.image_model.proofs.exact.none_found_stands.Goals as goal
 
 pub returns : goal.returns
 returns c = λ image root fits none.
