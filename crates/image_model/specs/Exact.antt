@@ -20,6 +20,10 @@ pub record RootsAreFound : Type 0 where
   pub no_root : (image : List Block) → (root_finding image ≡ Some NoRoot) ↔ (¬ HasRoot image)
   pub bad_geometry : (image : List Block) → (root_finding image ≡ Some BadGeometry) ↔ (HasRoot image × (¬ FitsImage image))
 
+-- Where what is seen of an image is sound, nothing is found before the log.
+abbrev pub NoneFoundEarly : Type 0
+NoneFoundEarly = (image : List Block) → IsSound (layout_in image) (seen image) → body_finding (layout_in image) (seen image) ≡ None
+
 -- What is seen of an image in which nothing is found is sound.
 abbrev pub NoneFound : Type 0
 NoneFound = (image : List Block) → body_finding (layout_in image) (seen image) ≡ None → IsSound (layout_in image) (seen image)

@@ -1,9 +1,14 @@
 //! Laws of what is found in an image.
-ghost use Rattle.image_model.specs.Exact.{RootsAreFound, NoneFound, NoneFoundStands};
+ghost use Rattle.image_model.specs.Exact.{RootsAreFound, NoneFound, NoneFoundStands, NoneFoundEarly};
 
 /// The phases of the root find nothing exactly where there is a root that fits the image.
 pub fn roots_are_found()
     ensures { RootsAreFound }
+{}
+
+/// Where what is seen is sound, nothing is found before the log.
+pub fn none_found_early()
+    ensures { NoneFoundEarly }
 {}
 
 /// What is seen of an image in which nothing is found is sound.
