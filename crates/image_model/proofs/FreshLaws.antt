@@ -1,5 +1,5 @@
 -- What a format leaves stands for the root directory alone.
-use Rattle.std.proofs.Common.{◌≡◌, ℕ, zero, suc, ◌+◌, ◌*◌, ◌^◌, ◌<◌, ◌≤◌, Bool, true, false, not, cond, List, [], ◌∷◌, ◌++◌, length, map, take, replicate, get_or, Some, refl, sym, ap, subst, ◌∙◌, arith}
+use Rattle.std.proofs.Common.{◌≡◌, ℕ, zero, suc, ◌+◌, ◌*◌, ◌^◌, ◌<◌, ◌≤◌, Bool, true, false, not, cond, List, [], ◌∷◌, ◌++◌, length, map, take, replicate, get_or, Some, refl, sym, ap, subst, ◌∙◌, arith, inl}
 use Rattle.std.specs.Prelude.{◌==◌, ◌||◌, nat_eq, option_map, Contains}
 use Rattle.std.specs.List.{AllByRecursion, flat_map}
 use Rattle.std.proofs.lemmas.Bool.Decides.{nat_tests}
@@ -14,7 +14,7 @@ use Rattle.block_format.specs.declared.inode.Inode.{Inode}
 use Rattle.block_format.specs.declared.inode.Inode.TheVariants.{Unused, Directory}
 use Rattle.block_format.proofs.WordLaws.{words-index_bytes}
 use Rattle.block_tree.specs.Tree.{Blocks, index_at, nonzero, pairs_below, indexes_below, IsFull, blocks_in}
-use Rattle.place_words.specs.Different.{is_among}
+use Rattle.place_words.specs.Different.{is_among, times}
 use Rattle.tree_model.specs.Path.{Path}
 use Rattle.tree_model.specs.Tree.{new_tree, node_at}
 use Rattle.tree_model.specs.declared.node.Node.{Node}
@@ -24,7 +24,9 @@ use Rattle.volume_model.specs.Space.{free_blocks, metadata_blocks}
 use Rattle.image_model.specs.Findings.{is_in_area}
 use Rattle.image_model.specs.Fresh.{IsFresh, fresh_inode, fresh_count, fresh_stored}
 use Rattle.image_model.specs.Holds.{HoldsTree}
-use Rattle.image_model.specs.Laws.{FreshStands}
+use Rattle.image_model.specs.Laws.{FreshStands, FreshHasPoint}
+use Rattle.image_model.specs.Plan.{IsPlanned, metas_of}
+use Rattle.image_model.specs.Point.{HasPoint, IsAssembled}
 use Rattle.image_model.specs.Met.{Met, index, points_at, metas, files, pointers_to, NoFaults}
 use Rattle.image_model.specs.Nodes.{has_tail, is_bad_directory, AllBelow, blocks_in_node}
 use Rattle.image_model.specs.Planned.{InodesStand, HasSpellings, IsSpelled, used_from, node_trees, height_in}
@@ -199,8 +201,8 @@ module _ (g : Layout) (image : List Block) (fresh : IsFresh g image) where
       by n true is used = let e : 1 ≡ n = grind (arith, nat_tests) in ([], record { number = 1; content = tree.Directory 0 }, refl, e)
       by n false is used = cc
 
-  pub stands : Stands image (fresh_stored g)
-  stands = assembled_stands image (fresh_stored g) (record {
+  has : IsAssembled image (fresh_stored g)
+  has = record {
     root = fresh.has_root;
     fits = fresh.fits;
     layout = sym layout;
@@ -218,7 +220,7 @@ module _ (g : Layout) (image : List Block) (fresh : IsFresh g image) where
     holds = subst (λ (s : Seen). HoldsTree s new_tree) (sym seen_is) holds;
     places = sym (ap (λ (s : Seen). map spot_of s.contents) seen_is);
     reserve = subst (λ (l : Layout). 16 ≤ free_blocks l new_tree []) (sym layout) free;
-  })
+  }
     where
       two : metadata_blocks new_tree [] ≡ 2
       two = refl
@@ -226,5 +228,41 @@ module _ (g : Layout) (image : List Block) (fresh : IsFresh g image) where
       free : 16 ≤ free_blocks g new_tree []
       free = omega (arith, low, two)
 
+  pub stands : Stands image (fresh_stored g)
+  stands = assembled_stands image (fresh_stored g) has
+
+  pub has_point : HasPoint image image (fresh_stored g)
+  has_point = record {
+    root = has.root;
+    fits = has.fits;
+    layout = refl;
+    stored_layout = has.layout;
+    point = has.point;
+    log_empty = has.log_empty;
+    for_metadata = [];
+    for_files = [];
+    fresh = record { free = λ b among. cc; once = λ b. omega arith };
+    leads = record { whole = has.whole; metas = λ b. omega arith; files = λ b among. inl among };
+    counts = has.counts;
+    tails = has.tails;
+    directories = has.directories;
+    is_tree = has.is_tree;
+    holds = has.holds;
+    places = has.places;
+    reserve = has.reserve;
+  }
+
+  pub planned : IsPlanned image image fresh_inode
+  planned = record {
+    spelled = subst (λ (at : ℕ). IsSpelled read at fresh_inode) (sym at_is) spelled;
+    for_inodes = [];
+    for_node = λ n. [];
+    inodes = λ b. omega arith;
+    nodes = λ b n. by_inode (λ x. times b (metas (node_trees read (n, x))) ≤ times b (metas_of image (inode_of (seen image).nodes) n) + 0) (omega arith) (omega arith) n;
+  }
+
 pub fresh_stands : FreshStands
 fresh_stands g image fresh = stands g image fresh
+
+pub fresh_has_point : FreshHasPoint
+fresh_has_point g image fresh = (has_point g image fresh, planned g image fresh)

@@ -105,7 +105,7 @@ places_in_order image none =
 
 -- ---- places by their spots
 
-spot_total : IsTotalOrder spot_cmp
+pub spot_total : IsTotalOrder spot_cmp
 spot_total = then_total (on_total (λ (s : Spot). s.0) nat_cmp_total) (on_total (λ (s : Spot). s.1) nat_cmp_total)
 
 nat_tie : (n m : ℕ) → nat_cmp n m ≡ Equal → n ≡ m
@@ -126,7 +126,11 @@ spot_tie a b e =
     let two = both_tie (nat_cmp a.0 b.0) (nat_cmp a.1 b.1) e in
     λ i. (nat_tie a.0 b.0 two.0 i, nat_tie a.1 b.1 two.1 i)
 
-true_T : (b : Bool) → b ≡ true → T b
+pub T_true : (b : Bool) → T b → b ≡ true
+T_true true h = refl
+T_true false h = absurd h
+
+pub true_T : (b : Bool) → b ≡ true → T b
 true_T b e = subst T (sym e) tt
 
 pub same_places : SamePlaces

@@ -1,7 +1,7 @@
 -- Laws of what an image stands for.
 use Rattle.std.specs.Prelude.{◌≡◌, ◌<◌, ◌≤◌, ℕ, ◌+◌, ◌*◌, ◌^◌, List, [], ◌∷◌, ◌++◌, map, get_or, Contains, None, false, ◌-◌, true}
 use Rattle.std.specs.List.{flat_map}
-use Rattle.std.specs.FinMap.{find, is_sorted}
+use Rattle.std.specs.FinMap.{find}
 use Rattle.vol_numbers.specs.Layout.{Layout, count_blocks, log_start}
 use Rattle.block_format.specs.Homes.{home_bit}
 use Rattle.vol_numbers.specs.declared.block.Block.{Block}
@@ -14,11 +14,16 @@ use Rattle.tree_model.specs.Path.{Path}
 use Rattle.tree_model.specs.Shape.{IsTree}
 use Rattle.tree_model.specs.Tree.{Tree, node_at}
 use Rattle.tree_model.specs.declared.command.Command.{Command}
-use Rattle.volume_model.specs.Machine.{Stored}
-use Rattle.volume_model.specs.Places.{Places, Spot, spot_cmp}
+use Rattle.space_account.specs.Charge.{need, pending}
+use Rattle.tree_model.specs.Step.{step}
+use Rattle.tree_model.specs.declared.reply.Reply.TheVariants as reply
+use Rattle.volume_model.specs.Machine.{Machine, Rules, Stored}
+use Rattle.volume_model.specs.Point.{after_point}
+use Rattle.volume_model.specs.Done.{mounted}
+use Rattle.volume_model.specs.Places.{Places, Spot, spot_cmp, InOrder}
 use Rattle.volume_model.specs.Space.{free_blocks}
 use Rattle.image_model.specs.Findings.{free_in, body_finding, is_in_area}
-use Rattle.image_model.specs.Fresh.{IsFresh, fresh_stored}
+use Rattle.image_model.specs.Fresh.{IsFresh, fresh_inode, fresh_stored}
 use Rattle.image_model.specs.Holds.{HoldsTree}
 use Rattle.image_model.specs.Met.{index, metas, NoFaults, pointers_to}
 use Rattle.image_model.specs.Plan.{IsPlanned, taken_in}
@@ -46,6 +51,15 @@ abbrev pub NextStands : Type 0
 NextStands = (old new : List Block) (command : Command) (s : Stored) → HasNext old new command → Stands old s
     → Accepts (free_blocks (layout_in old) s.tree s.places) s.tree 0 (s.records ++ command ∷ []) → Stands new (and_command s command)
 
+-- Records are accepted with one more exactly where they are accepted, the tree after them does that command, and what is pending and its need
+-- are together at most free.
+pub record AcceptedMore : Type 0 where
+  pub more : (free : ℕ) (s : Stored) (command : Command) → Accepts free s.tree 0 s.records → (step (mounted s).tree command).0 ≡ reply.Done → pending s.records + need command ≤ free
+      → Accepts free s.tree 0 (s.records ++ command ∷ [])
+  pub last : (free : ℕ) (s : Stored) (command : Command) → Accepts free s.tree 0 (s.records ++ command ∷ [])
+      → ((step (mounted s).tree command).0 ≡ reply.Done) × (pending s.records + need command ≤ free)
+  pub front : (free : ℕ) (s : Stored) (command : Command) → Accepts free s.tree 0 (s.records ++ command ∷ []) → Accepts free s.tree 0 s.records
+
 -- The blocks of the area with count 0 are as many as the formula over the tree and its places says.
 abbrev pub FreeIsCounted : Type 0
 FreeIsCounted = (image : List Block) (s : Stored) → Stands image s → free_in (layout_in image) (seen image).kept ≡ free_blocks (layout_in image) s.tree s.places
@@ -61,6 +75,10 @@ PointStands = (old new : List Block) (before s : Stored) → Stands old before �
 -- Where each used number has one path, a tree is seen.
 abbrev pub TreeExists : Type 0
 TreeExists = (s : Seen) → IsNamed s → (tree : Tree) × IsOrdered tree × ((path : Path) → node_at tree path ≡ node_along s path)
+
+-- An image that stands for a tree holds it node by node.
+abbrev pub TreeIsHeld : Type 0
+TreeIsHeld = (image : List Block) (s : Stored) → Stands image s → HoldsTree (seen image) s.tree
 
 -- A tree that is held node by node is seen, and its numbers have one path each.
 abbrev pub HeldIsSeen : Type 0
@@ -96,8 +114,19 @@ NotLive = (image : List Block) → FitsImage image → WritesNoLive image
 
 -- The places that are seen are in order.
 abbrev pub PlacesInOrder : Type 0
-PlacesInOrder = (image : List Block) → NoFaults (seen image).met → is_sorted spot_cmp (map spot_of (seen image).contents) ≡ true
+PlacesInOrder = (image : List Block) → NoFaults (seen image).met → InOrder (map spot_of (seen image).contents)
+
+-- The places after a point are in order. So what is seen has them where it has the block of each.
+pub record PointPlaces : Type 0 where
+  pub in_order : (r : Rules) (m : Machine) (fresh : List ℕ) → InOrder m.kept → InOrder (after_point r m fresh).stored_places
+  pub seen : (image : List Block) (r : Rules) (m : Machine) (fresh : List ℕ) → NoFaults (seen image).met → InOrder m.kept
+      → ((spot : Spot) → find spot_cmp spot (map spot_of (seen image).contents) ≡ find spot_cmp spot (after_point r m fresh).stored_places)
+      → map spot_of (seen image).contents ≡ (after_point r m fresh).stored_places
+
+-- What a format leaves has all that a point owes, over itself: so there are images that have it.
+abbrev pub FreshHasPoint : Type 0
+FreshHasPoint = (g : Layout) (image : List Block) → IsFresh g image → HasPoint image image (fresh_stored g) × IsPlanned image image fresh_inode
 
 -- Places in order that have the same blocks are the same.
 abbrev pub SamePlaces : Type 0
-SamePlaces = (p q : Places) → is_sorted spot_cmp p ≡ true → is_sorted spot_cmp q ≡ true → ((spot : Spot) → find spot_cmp spot p ≡ find spot_cmp spot q) → p ≡ q
+SamePlaces = (p q : Places) → InOrder p → InOrder q → ((spot : Spot) → find spot_cmp spot p ≡ find spot_cmp spot q) → p ≡ q

@@ -1,9 +1,14 @@
 //! Laws of what is found in an image.
-ghost use Rattle.image_model.specs.Exact.{RootsAreFound, NoneFound, NoneFoundStands};
+ghost use Rattle.image_model.specs.Exact.{RootsAreFound, NoneFound, NoneFoundStands, NoneFoundEarly, StandingHasNone, OneFinding, StandsOrFinds};
 
 /// The phases of the root find nothing exactly where there is a root that fits the image.
 pub fn roots_are_found()
     ensures { RootsAreFound }
+{}
+
+/// Where what is seen is sound, nothing is found before the log.
+pub fn none_found_early()
+    ensures { NoneFoundEarly }
 {}
 
 /// What is seen of an image in which nothing is found is sound.
@@ -14,4 +19,19 @@ pub fn none_found()
 /// An image in which nothing is found stands for a tree, where its records are accepted.
 pub fn none_found_stands()
     ensures { NoneFoundStands }
+{}
+
+/// An image that stands for something has no finding.
+pub fn standing_has_none()
+    ensures { StandingHasNone }
+{}
+
+/// An image has at most one finding.
+pub fn one_finding()
+    ensures { OneFinding }
+{}
+
+/// There is no image that has no finding and stands for nothing.
+pub fn stands_or_finds()
+    ensures { StandsOrFinds }
 {}
