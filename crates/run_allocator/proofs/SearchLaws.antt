@@ -34,10 +34,10 @@ fit_none n runs i past so_far = sym so_far ∙ ap (first_fit n) (drop_all i runs
 
 -- ---- the longest
 
-pick_left : (r s : Run) → s.length ≤ r.length → longer r (Some s) ≡ Some r
+pub pick_left : (r s : Run) → s.length ≤ r.length → longer r (Some s) ≡ Some r
 pick_left r s le = ap (λ (t : Bool). if t then Some s else Some r) (let t : nat_lt r.length s.length ≡ false = grind (arith, nat_tests, le) in t)
 
-pick_right : (r s : Run) → r.length < s.length → longer r (Some s) ≡ Some s
+pub pick_right : (r s : Run) → r.length < s.length → longer r (Some s) ≡ Some s
 pick_right r s less = ap (λ (t : Bool). if t then Some s else Some r) (let t : nat_lt r.length s.length ≡ true = grind (arith, nat_tests, less) in t)
 
 -- the first of them is no longer than itself

@@ -5,6 +5,7 @@ ghost use Rattle.run_allocator.specs.Runs.{AreApart, numbers_of};
 ghost use Rattle.run_allocator.specs.Taken.{front};
 ghost use Rattle.run_allocator.specs.Steps.{IsFront, IsPiece, IsStep, AreSteps, take_at};
 
+use crate::order::{drop_before, in_order, whole_runs};
 use std::alloc::{AllocError, Global};
 use std::collections::VecDeque;
 use vol_numbers::{BlockNo, Run};
@@ -45,10 +46,7 @@ pub(crate) fn take_pieces(
     if piece.length == n {
         return take_one_piece(alloc, runs, piece);
     }
-    let mut rest = copied(alloc, runs)?;
-    let taken = take_many(alloc, &mut rest, n)?;
-    *runs = rest;
-    Ok(taken)
+    take_many(alloc, runs, n)
 }
 
 /// Takes a piece that is all that is asked for. The memory is taken before.
@@ -68,30 +66,40 @@ fn take_one_piece(
     Ok(taken)
 }
 
+/// Takes n blocks as several pieces: runs that are whole, by length, and a last piece by the rule.
+///
+/// The runs are copied and sorted once, and then no memory is taken.
+fn take_many(alloc: Global, runs: &mut VecDeque<Run>, n: u32) -> Result<Vec<Run>, AllocError>
+    requires apart { AreApart 1 runs.old.items }
+    requires n { 1 ≤ n }
+    requires enough { n ≤ length (numbers_of runs.old.items) }
+    ensures taken { IfOk result (λ taken. AreSteps runs.old.items n taken.items runs.new.items) }
+    ensures unchanged { OnErr result (runs.new.items ≡ runs.old.items) }
+{
+    let mut order = in_order(alloc, runs)?;
+    let whole = whole_runs(&order, n);
+    drop_before(runs, order[whole.runs]);
+    order[whole.runs] = take_piece(runs, whole.left);
+    order.truncate(whole.runs + 1);
+    Ok(order)
+}
+
 /// The same runs, in memory of their own.
 pub(crate) fn copied(alloc: Global, runs: &VecDeque<Run>) -> Result<VecDeque<Run>, AllocError>
     ensures { IfOk result (λ copy. copy.items ≡ runs.now.items) }
 {
-    let (front, back) = runs.as_slices();
-    let mut copy = Vec::from_slice(alloc, front)?;
-    copy.extend_from_slice(back)?;
-    Ok(VecDeque::from_vec(copy))
+    Ok(VecDeque::from_vec(listed(alloc, runs)?))
 }
 
-/// Takes n blocks piece by piece.
-fn take_many(alloc: Global, runs: &mut VecDeque<Run>, n: u32) -> Result<Vec<Run>, AllocError>
-    requires apart { AreApart 1 runs.old.items }
-    requires enough { n ≤ length (numbers_of runs.old.items) }
-    ensures { IfOk result (λ taken. AreSteps runs.old.items n taken.items runs.new.items) }
+/// The same runs as a list. Each is copied once.
+pub(crate) fn listed(alloc: Global, runs: &VecDeque<Run>) -> Result<Vec<Run>, AllocError>
+    ensures { IfOk result (λ list. list.items ≡ runs.now.items) }
 {
-    let mut taken = Vec::new(alloc);
-    let mut left = n;
-    while left > 0 {
-        let blocks = take_piece(runs, left);
-        taken.push(blocks)?;
-        left -= blocks.length;
-    }
-    Ok(taken)
+    let (front, back) = runs.as_slices();
+    let mut list = Vec::with_capacity(alloc, runs.len())?;
+    list.extend_from_slice(front)?;
+    list.extend_from_slice(back)?;
+    Ok(list)
 }
 
 /// Takes the next piece for n blocks.
@@ -171,7 +179,7 @@ fn find_piece(runs: &VecDeque<Run>, n: u32) -> Piece
 }
 
 /// Whether a run has n blocks.
-fn is_enough(run: Run, n: u32) -> bool
+pub(crate) fn is_enough(run: Run, n: u32) -> bool
     ensures { result ≡ nat_le n run.length }
 {
     n <= run.length
