@@ -9,18 +9,18 @@ use Rattle.std.proofs.lemmas.List.Sums.{sum_by-cons}
 use Rattle.std.proofs.lemmas.List.Sorted.{sum_by-IsPermutation}
 use Rattle.vol_numbers.specs.declared.runs.Run.{Run}
 use Rattle.run_allocator.specs.Runs.{numbers_from, numbers_of, AreApart}
-use Rattle.run_allocator.specs.Taken.{first_fit, longer, longest, front, step_or, AreTaken, more, left_without}
+use Rattle.run_allocator.specs.Taken.{first_fit, longer, longest, step_or, AreTaken, more, left_without}
 use Rattle.run_allocator.specs.Steps.{take_at, IsStep, AreSteps}
 use Rattle.run_allocator.specs.Order.{goes_before, not_before, IsOrder, AreWhole}
 use Rattle.run_allocator.specs.declared.pieces.Piece.{Piece}
 use Rattle.run_allocator.proofs.RunLaws.{apart_lower, at_least, length-numbers_from}
 use Rattle.run_allocator.proofs.SearchLaws.{pick_left, pick_right, read_there}
-use Rattle.run_allocator.proofs.StepLaws.{apart_at, all_shorter, runs_of-numbers, cut_is_step, step_alone}
+use Rattle.run_allocator.proofs.StepLaws.{apart_at, all_shorter, cut_is_step, step_alone}
 use Rattle.run_allocator.proofs.ComputedLaws.{longest_there}
 
 -- ---- which of two runs goes before the other
 
-pub none_before_itself : (q : Run) → goes_before q q ≡ false
+none_before_itself : (q : Run) → goes_before q q ≡ false
 none_before_itself q = grind (arith, nat_tests)
 
 pub before_chain : (x y z : Run) → goes_before x y ≡ false → goes_before y z ≡ false → goes_before x z ≡ false
@@ -50,7 +50,7 @@ none_at q (x ∷ xs) (suc i) r none e = none_at q xs i r none.1 e
 
 -- ---- the rule at a run that none goes before
 
-pub longest_is : (least : ℕ) (runs : List Run) (i : ℕ) (q : Run) → AreApart least runs → slice_get runs i ≡ Some q → NoneBefore q runs → longest runs ≡ Some q
+longest_is : (least : ℕ) (runs : List Run) (i : ℕ) (q : Run) → AreApart least runs → slice_get runs i ≡ Some q → NoneBefore q runs → longest runs ≡ Some q
 longest_is least [] i q are e none = cc
 longest_is least (x ∷ xs) zero q are e none =
     let same : x ≡ q = cc in
@@ -165,7 +165,7 @@ total_taken f [] i q e = cc
 total_taken f (x ∷ xs) zero q e = let same : x ≡ q = cc in omega (arith, ap f same, ap (total f) (head_taken x q xs same))
 total_taken f (x ∷ xs) (suc i) q e = omega (arith, total_taken f xs i q e)
 
-pub kept_all : (q : Run) (runs : List Run) → NoneBefore q runs → not_before runs q ≡ runs
+kept_all : (q : Run) (runs : List Run) → NoneBefore q runs → not_before runs q ≡ runs
 kept_all q [] none = refl
 kept_all q (x ∷ xs) none =
     ap (λ (t : Bool). if not t then x ∷ not_before xs q else not_before xs q) none.0 ∙ ap (λ (ys : List Run). x ∷ ys) (kept_all q xs none.1)
@@ -178,7 +178,7 @@ kept_taken p q (x ∷ xs) zero before e =
     ∙ ap (λ (ys : List Run). not_before ys q) (sym (head_taken x p xs same))
 kept_taken p q (x ∷ xs) (suc i) before e = ap (λ (ys : List Run). if not (goes_before x q) then x ∷ ys else ys) (kept_taken p q xs i before e)
 
-pub kept_there : (q : Run) (runs : List Run) (i : ℕ) → slice_get runs i ≡ Some q → (j : ℕ) × (slice_get (not_before runs q) j ≡ Some q)
+kept_there : (q : Run) (runs : List Run) (i : ℕ) → slice_get runs i ≡ Some q → (j : ℕ) × (slice_get (not_before runs q) j ≡ Some q)
 kept_there q [] i e = cc
 kept_there q (x ∷ xs) zero e =
     let same : x ≡ q = cc in
@@ -210,7 +210,7 @@ pub record AreInOrder (runs order : List Run) : Type 0 where
   pub same : (f : Run → ℕ) → total f order ≡ total f runs
   pub falls : Falls order
 
-pub in_runs : (runs order : List Run) (i : ℕ) (q : Run) → AreInOrder runs order → slice_get order i ≡ Some q → (j : ℕ) × (slice_get runs j ≡ Some q)
+in_runs : (runs order : List Run) (i : ℕ) (q : Run) → AreInOrder runs order → slice_get order i ≡ Some q → (j : ℕ) × (slice_get runs j ≡ Some q)
 in_runs runs order i q o e =
     let f : Run → ℕ = λ r. one (is_same r q) in
     found q runs (omega (arith, o.same f, there_total f order i q e, ap one (same_itself q)))
@@ -219,12 +219,7 @@ none_in_runs : (runs : List Run) (q : Run) (ls : List Run) → AreInOrder runs (
 none_in_runs runs q ls o =
     total_none q runs (sym (o.same (λ r. one (goes_before r q))) ∙ none_total q (q ∷ ls) (none_before_itself q, o.falls.0))
 
--- the longest is the first of the order, and without it the order is the rest
-first_is_longest : (runs : List Run) (q : Run) (ls : List Run) → AreInOrder runs (q ∷ ls) → (i : ℕ) × (slice_get runs i ≡ Some q) × (longest runs ≡ Some q)
-first_is_longest runs q ls o =
-    let there = in_runs runs (q ∷ ls) 0 q o refl in
-    (there.0, there.1, longest_is 1 runs there.0 q o.apart there.1 (none_in_runs runs q ls o))
-
+-- the order of what is left without the first is the rest
 rest_in_order : (runs : List Run) (i : ℕ) (q : Run) (ls : List Run) → AreInOrder runs (q ∷ ls) → slice_get runs i ≡ Some q → AreApart 1 (take_at runs i q.length) → AreInOrder (take_at runs i q.length) ls
 rest_in_order runs i q ls o there are = record {
   apart = are;
@@ -297,23 +292,10 @@ whole_some [] n k left some whole = absurd whole
 whole_some (r ∷ rs) n zero left some whole = omega (arith, some, whole.0)
 whole_some (r ∷ rs) n (suc k) left some whole = whole_some rs (n - r.length) k left (omega (arith, whole.0)) whole.1
 
-pub whole_enough : (order : List Run) (n k left : ℕ) (q : Run) → AreWhole order n k left → slice_get order k ≡ Some q → left ≤ q.length
+whole_enough : (order : List Run) (n k left : ℕ) (q : Run) → AreWhole order n k left → slice_get order k ≡ Some q → left ≤ q.length
 whole_enough [] n k left q whole e = absurd whole
 whole_enough (r ∷ rs) n zero left q whole e = let same : r ≡ q = cc in subst (λ (y : Run). left ≤ y.length) same (omega (arith, whole.0, whole.1))
 whole_enough (r ∷ rs) n (suc k) left q whole e = whole_enough rs (n - r.length) k left q whole.1 e
-
--- where a run is long enough, a step takes all that is wanted
-pub step_takes_all : (runs : List Run) (i n : ℕ) (q r : Run) (left : List Run) → AreApart 1 runs → slice_get runs i ≡ Some q → n ≤ q.length → IsStep runs n r left → r.length ≡ n
-step_takes_all runs i n q r left are there enough step =
-    of_fit (first_fit n runs) refl (sym (ap (λ (rs : List Run). step_or n (first_fit n rs) (longest rs)) (runs_of-numbers 1 runs are)) ∙ step.taken)
-  where
-    of_fit : (o : Option Run) → first_fit n runs ≡ o → step_or n o (longest runs) ≡ Some r → r.length ≡ n
-    of_fit (Some s) is taken = let same : front s n ≡ r = cc in sym (ap (λ (x : Run). x.length) same)
-    of_fit None is taken = absurd (omega (arith, enough, all_shorter n runs i q is there))
-
-pub some_there : (runs : List Run) (i : ℕ) (q : Run) → slice_get runs i ≡ Some q → 1 ≤ length runs
-some_there [] i q e = cc
-some_there (x ∷ xs) i q e = omega arith
 
 pub some_left : (xs : List Run) (i : ℕ) → 1 ≤ length (numbers_of (drop i xs)) → i < length xs
 some_left [] zero some = absurd (omega (arith, some))
@@ -323,7 +305,7 @@ some_left (x ∷ xs) (suc i) some = omega (arith, some_left xs i some)
 
 -- ---- a take as several pieces
 
-pub many_steps : (count : ℕ) (runs order : List Run) (n left : ℕ) (q r : Run) (final : List Run) → AreInOrder runs order → AreWhole order n count left → slice_get order count ≡ Some q
+many_steps : (count : ℕ) (runs order : List Run) (n left : ℕ) (q r : Run) (final : List Run) → AreInOrder runs order → AreWhole order n count left → slice_get order count ≡ Some q
     → IsStep (not_before runs q) left r final → r.length ≡ left → AreSteps runs n (take count order ++ r ∷ []) final
 many_steps zero runs [] n left q r final o whole e last all = cc
 many_steps (suc k) runs [] n left q r final o whole e last all = cc
@@ -358,16 +340,16 @@ split_of runs order read n count left q are o same whole is =
       next = read_there order count q is (whole_within order n count left of_order);
     }
 
-pub next_there : (runs order : List Run) (n count left : ℕ) (q : Run) → AreSplit runs order n count left q → (j : ℕ) × (slice_get (not_before runs q) j ≡ Some q)
-next_there runs order n count left q s = let there = in_runs runs order count q s.placed s.next in kept_there q runs there.0 there.1
+pub next_fits : (runs order : List Run) (n count left : ℕ) (q : Run) → AreSplit runs order n count left q → first_fit left (not_before runs q) ≡ None → ⊥
+next_fits runs order n count left q s none =
+    let there = in_runs runs order count q s.placed s.next in
+    let kept = kept_there q runs there.0 there.1 in
+    absurd (omega (arith, whole_enough order n count left q s.whole s.next, all_shorter left (not_before runs q) kept.0 q none kept.1))
 
 pub split_steps : (runs order : List Run) (n count left : ℕ) (q r : Run) (mid final : List Run) → AreSplit runs order n count left q → mid ≡ not_before runs q → IsStep mid left r final
-    → AreSteps runs n (take count order ++ r ∷ []) final
-split_steps runs order n count left q r mid final s is step =
-    let there = next_there runs order n count left q s in
-    let last : IsStep (not_before runs q) left r final = subst (λ (xs : List Run). IsStep xs left r final) is step in
-    let all = step_takes_all (not_before runs q) there.0 left q r final (kept_apart 1 q runs s.placed.apart) there.1 (whole_enough order n count left q s.whole s.next) last in
-    many_steps count runs order n left q r final s.placed s.whole s.next last all
+    → r.length ≡ left → AreSteps runs n (take count order ++ r ∷ []) final
+split_steps runs order n count left q r mid final s is step all =
+    many_steps count runs order n left q r final s.placed s.whole s.next (subst (λ (xs : List Run). IsStep xs left r final) is step) all
 
 -- the blocks of the runs from a place on
 pub size_more : (xs : List Run) (i : ℕ) (d : Run) → i < length xs → length (numbers_of (drop i xs)) ≡ (get_or xs i d).length + length (numbers_of (drop (i + 1) xs))
