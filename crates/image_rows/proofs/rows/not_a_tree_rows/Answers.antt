@@ -1,0 +1,23 @@
+use Rattle.std.proofs.Common.{refl}
+use Rattle.block_format.specs.Words.{words}
+use Rattle.block_format.specs.Inode.{inode_in}
+use Rattle.block_format.specs.Root.{root_in}
+use Rattle.block_format.specs.Slot.{slot_in}
+use Rattle.image_model.specs.Findings.{body_finding}
+use Rattle.image_model.specs.Nodes.{tree_finding}
+use Rattle.image_model.specs.Roots.{root_finding}
+use Rattle.image_model.specs.Seen.{seen}
+use Rattle.image_model.specs.Slots.{slots_from}
+use Rattle.image_model.specs.Walk.{walk, inodes_from}
+use Rattle.image_rows.proofs.Late.{at_named_twice, at_root_named, at_unused_named, at_unnamed, at_ring}
+use Rattle.image_rows.proofs.rows.not_a_tree_rows.Goals as goal
+
+pub returns : goal.returns
+unfolding words inode_in root_in slot_in body_finding tree_finding root_finding seen slots_from walk inodes_from
+returns c = record {
+  found_in_named_twice = at_named_twice;
+  found_in_root_named = at_root_named;
+  found_in_unused_named = at_unused_named;
+  found_in_unnamed = at_unnamed;
+  found_in_ring = at_ring;
+}
