@@ -46,3 +46,8 @@ module _ (image : List Block) where
     pub in_directories : root_finding image ≡ None → walk_finding g [] s.met ≡ None → mixed_finding s.met 0 g.blocks ≡ None → tail_finding s ≡ None → directory_finding s ≡ Some f → early_finding image ≡ Some f
     unfolding body_finding
     in_directories root walk mixed tails is = later _ _ _ root (later _ _ _ walk (later _ _ _ mixed (later _ _ _ tails (here _ _ f is))))
+
+    pub in_tree : root_finding image ≡ None → walk_finding g [] s.met ≡ None → mixed_finding s.met 0 g.blocks ≡ None → tail_finding s ≡ None → directory_finding s ≡ None → tree_finding s ≡ Some f
+        → early_finding image ≡ Some f
+    unfolding body_finding
+    in_tree root walk mixed tails directories is = later _ _ _ root (later _ _ _ walk (later _ _ _ mixed (later _ _ _ tails (later _ _ _ directories (here _ _ f is)))))

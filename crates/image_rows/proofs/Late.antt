@@ -11,40 +11,15 @@ use Rattle.image_model.specs.Roots.{root_finding}
 use Rattle.image_model.specs.Seen.{seen}
 use Rattle.image_model.specs.Slots.{slots_from}
 use Rattle.image_model.specs.Walk.{walk, inodes_from}
-use Rattle.image_model.specs.declared.finding.Finding.TheVariants.{NoReserve, NotATree, WrongCount}
+use Rattle.image_model.specs.declared.finding.Finding.TheVariants.{NoReserve, WrongCount}
 use Rattle.image_rows.specs.Images.{small}
-use Rattle.image_rows.specs.Nodes.{named_twice, root_named, unused_named, unnamed, ring}
-use Rattle.image_rows.specs.Spaces.{third_pointer, counted_log, counted_behind, fifteen_free}
-use Rattle.image_rows.specs.Orders.{tree_and_count, count_and_reserve}
-use Rattle.image_rows.specs.Sound.{blank, holes, open_end, other_slot, other_home, just_enough}
-
-pub at_named_twice : early_finding named_twice ≡ Some (NotATree 2)
-unfolding words inode_in root_in slot_in body_finding tree_finding root_finding seen slots_from walk inodes_from
-at_named_twice = refl
-
-pub at_root_named : early_finding root_named ≡ Some (NotATree 1)
-unfolding words inode_in root_in slot_in body_finding tree_finding root_finding seen slots_from walk inodes_from
-at_root_named = refl
-
-pub at_unused_named : early_finding unused_named ≡ Some (NotATree 4)
-unfolding words inode_in root_in slot_in body_finding tree_finding root_finding seen slots_from walk inodes_from
-at_unused_named = refl
-
-pub at_unnamed : early_finding unnamed ≡ Some (NotATree 3)
-unfolding words inode_in root_in slot_in body_finding tree_finding root_finding seen slots_from walk inodes_from
-at_unnamed = refl
-
-pub at_ring : early_finding ring ≡ Some (NotATree 4)
-unfolding words inode_in root_in slot_in body_finding tree_finding root_finding seen slots_from walk inodes_from
-at_ring = refl
+use Rattle.image_rows.specs.Spaces.{third_pointer, counted_behind, fifteen_free}
+use Rattle.image_rows.specs.Orders.{count_and_reserve}
+use Rattle.image_rows.specs.Sound.{blank, unlike, just_enough}
 
 pub at_third_pointer : early_finding third_pointer ≡ Some (WrongCount 105 3 2)
 unfolding words inode_in root_in slot_in body_finding tree_finding root_finding seen slots_from walk inodes_from
 at_third_pointer = refl
-
-pub at_counted_log : early_finding counted_log ≡ Some (WrongCount 50 1 0)
-unfolding words inode_in root_in slot_in body_finding tree_finding root_finding seen slots_from walk inodes_from
-at_counted_log = refl
 
 pub at_counted_behind : early_finding counted_behind ≡ Some (WrongCount 1000 1 0)
 unfolding words inode_in root_in slot_in body_finding tree_finding root_finding seen slots_from walk inodes_from
@@ -53,10 +28,6 @@ at_counted_behind = refl
 pub at_fifteen_free : early_finding fifteen_free ≡ Some (NoReserve 15)
 unfolding words inode_in root_in slot_in body_finding tree_finding root_finding seen slots_from walk inodes_from
 at_fifteen_free = refl
-
-pub at_tree_and_count : early_finding tree_and_count ≡ Some (NotATree 3)
-unfolding words inode_in root_in slot_in body_finding tree_finding root_finding seen slots_from walk inodes_from
-at_tree_and_count = refl
 
 pub at_count_and_reserve : early_finding count_and_reserve ≡ Some (WrongCount 101 2 1)
 unfolding words inode_in root_in slot_in body_finding tree_finding root_finding seen slots_from walk inodes_from
@@ -70,21 +41,9 @@ pub at_blank : early_finding blank ≡ None
 unfolding words inode_in root_in slot_in body_finding tree_finding root_finding seen slots_from walk inodes_from
 at_blank = refl
 
-pub at_holes : early_finding holes ≡ None
+pub at_unlike : early_finding unlike ≡ None
 unfolding words inode_in root_in slot_in body_finding tree_finding root_finding seen slots_from walk inodes_from
-at_holes = refl
-
-pub at_open_end : early_finding open_end ≡ None
-unfolding words inode_in root_in slot_in body_finding tree_finding root_finding seen slots_from walk inodes_from
-at_open_end = refl
-
-pub at_other_slot : early_finding other_slot ≡ None
-unfolding words inode_in root_in slot_in body_finding tree_finding root_finding seen slots_from walk inodes_from
-at_other_slot = refl
-
-pub at_other_home : early_finding other_home ≡ None
-unfolding words inode_in root_in slot_in body_finding tree_finding root_finding seen slots_from walk inodes_from
-at_other_home = refl
+at_unlike = refl
 
 pub at_just_enough : early_finding just_enough ≡ None
 unfolding words inode_in root_in slot_in body_finding tree_finding root_finding seen slots_from walk inodes_from

@@ -12,21 +12,17 @@ use Rattle.image_rows.specs.Images.{filled, index_block, inode_block, directory_
 abbrev pub blank : List Block
 blank = image_of ((1, root_bytes (record root { point = 0 })) ∷ (3, count_block ((101, 1) ∷ (102, 1) ∷ [])) ∷ (101, inode_block (Unused ∷ Directory 0 0 0 ∷ [])) ∷ (102, index_block (101 ∷ [])) ∷ [])
 
--- the second file has 4,294,967,296 bytes and no block: it needs no index block
-abbrev pub holes : List Block
-holes = with_blocks ((3, count_block ((105, 1) ∷ counts)) ∷ (101, inode_block (Unused ∷ Directory 2 0 103 ∷ File 5000 1 104 ∷ File 4294967296 2 0 ∷ [])) ∷ [])
-
--- the last place of the first file is a hole, and nothing is said of its tail
-abbrev pub open_end : List Block
-open_end = with_blocks ((3, count_block ((106, 0) ∷ counts)) ∷ (104, index_block (105 ∷ [])) ∷ [])
-
--- the selector has an odd first byte and other bytes, and the root stands in slot 1
-abbrev pub other_slot : List Block
-other_slot = with_blocks ((0, filled (3 ∷ 255 ∷ [])) ∷ (1, replicate 4096 0) ∷ (2, root_bytes root) ∷ [])
-
--- the root names the other home of the counts; the first one holds anything
-abbrev pub other_home : List Block
-other_home = with_blocks ((1, root_bytes (record root { homes = 1 ∷ replicate 127 0 })) ∷ (3, data_block 7 4096) ∷ (4, count_block counts) ∷ [])
+-- Slot 1 is current, by an odd first byte of the selector. The root names the other home of the counts; the first one holds anything. The last place of the first file is a hole, and nothing is said of its tail. The second file has 4,294,967,296 bytes and no block: it needs no index block.
+abbrev pub unlike : List Block
+unlike = with_blocks (
+    (0, filled (3 ∷ 255 ∷ []))
+    ∷ (1, replicate 4096 0)
+    ∷ (2, root_bytes (record root { homes = 1 ∷ replicate 127 0 }))
+    ∷ (3, data_block 7 4096)
+    ∷ (4, count_block ((105, 1) ∷ (106, 0) ∷ counts))
+    ∷ (101, inode_block (Unused ∷ Directory 2 0 103 ∷ File 5000 1 104 ∷ File 4294967296 2 0 ∷ []))
+    ∷ (104, index_block (105 ∷ []))
+    ∷ [])
 
 -- the first file has 44 blocks, and 16 are free
 abbrev pub just_enough : List Block
@@ -36,8 +32,5 @@ just_enough = with_blocks ((3, count_block (ones 101 48)) ∷ (101, inode_block 
 pub record SoundImages : Type 0 where
   pub nothing_in_small : early_finding small ≡ None
   pub nothing_in_blank : early_finding blank ≡ None
-  pub nothing_in_holes : early_finding holes ≡ None
-  pub nothing_in_open_end : early_finding open_end ≡ None
-  pub nothing_in_other_slot : early_finding other_slot ≡ None
-  pub nothing_in_other_home : early_finding other_home ≡ None
+  pub nothing_in_unlike : early_finding unlike ≡ None
   pub nothing_in_just_enough : early_finding just_enough ≡ None

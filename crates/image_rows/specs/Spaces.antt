@@ -12,10 +12,6 @@ use Rattle.image_rows.specs.Images.{index_block, inode_block, directory_block, c
 abbrev pub third_pointer : List Block
 third_pointer = with_blocks ((3, count_block ((105, 3) ∷ counts)) ∷ [])
 
--- a block of the log is counted
-abbrev pub counted_log : List Block
-counted_log = with_blocks ((3, count_block ((50, 1) ∷ counts)) ∷ [])
-
 -- a number behind the last block is counted
 abbrev pub counted_behind : List Block
 counted_behind = with_blocks ((3, count_block ((1000, 1) ∷ counts)) ∷ [])
@@ -23,7 +19,6 @@ counted_behind = with_blocks ((3, count_block ((1000, 1) ∷ counts)) ∷ [])
 -- counts that are not the number of pointers
 pub record WrongCountRows : Type 0 where
   pub found_in_third_pointer : early_finding third_pointer ≡ Some (WrongCount 105 3 2)
-  pub found_in_counted_log : early_finding counted_log ≡ Some (WrongCount 50 1 0)
   pub found_in_counted_behind : early_finding counted_behind ≡ Some (WrongCount 1000 1 0)
 
 -- the first file has 45 blocks, and 15 are free

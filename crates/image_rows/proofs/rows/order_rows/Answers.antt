@@ -9,10 +9,10 @@ use Rattle.image_model.specs.Roots.{root_finding}
 use Rattle.image_model.specs.Seen.{seen}
 use Rattle.image_model.specs.Slots.{slots_from}
 use Rattle.image_model.specs.Walk.{walk, inodes_from}
-use Rattle.image_model.specs.declared.finding.Finding.TheVariants.{BadDirectory, BadGeometry, BadPointer, BadTail, MixedBlock, NoRoot}
-use Rattle.image_model.proofs.Phases.{in_directories, in_mixed, in_root, in_tails, in_walk}
-use Rattle.image_rows.specs.Orders.{directory_and_tree, geometry_and_pointer, mixed_and_tail, pointer_and_mixed, root_and_geometry, tail_and_directory}
-use Rattle.image_rows.proofs.Late.{at_tree_and_count, at_count_and_reserve}
+use Rattle.image_model.specs.declared.finding.Finding.TheVariants.{BadDirectory, BadGeometry, BadPointer, BadTail, MixedBlock, NoRoot, NotATree}
+use Rattle.image_model.proofs.Phases.{in_directories, in_mixed, in_root, in_tails, in_tree, in_walk}
+use Rattle.image_rows.specs.Orders.{directory_and_tree, geometry_and_pointer, mixed_and_tail, pointer_and_mixed, root_and_geometry, tail_and_directory, tree_and_count}
+use Rattle.image_rows.proofs.Late.{at_count_and_reserve}
 use Rattle.image_rows.proofs.rows.order_rows.Goals as goal
 
 pub returns : goal.returns
@@ -24,6 +24,6 @@ returns c = record {
   found_in_mixed_and_tail = in_mixed mixed_and_tail (MixedBlock 103) refl refl refl;
   found_in_tail_and_directory = in_tails tail_and_directory (BadTail 3) refl refl refl refl;
   found_in_directory_and_tree = in_directories directory_and_tree (BadDirectory 1) refl refl refl refl refl;
-  found_in_tree_and_count = at_tree_and_count;
+  found_in_tree_and_count = in_tree tree_and_count (NotATree 3) refl refl refl refl refl refl;
   found_in_count_and_reserve = at_count_and_reserve;
 }

@@ -9,7 +9,7 @@ use Rattle.image_model.specs.Roots.{root_finding}
 use Rattle.image_model.specs.Seen.{seen}
 use Rattle.image_model.specs.Slots.{slots_from}
 use Rattle.image_model.specs.Walk.{walk, inodes_from}
-use Rattle.image_rows.proofs.Late.{at_small, at_blank, at_holes, at_open_end, at_other_slot, at_other_home, at_just_enough}
+use Rattle.image_rows.proofs.Late.{at_small, at_blank, at_unlike, at_just_enough}
 use Rattle.image_rows.proofs.rows.sound_images.Goals as goal
 
 pub returns : goal.returns
@@ -17,9 +17,6 @@ unfolding words inode_in root_in slot_in body_finding tree_finding root_finding 
 returns c = record {
   nothing_in_small = at_small;
   nothing_in_blank = at_blank;
-  nothing_in_holes = at_holes;
-  nothing_in_open_end = at_open_end;
-  nothing_in_other_slot = at_other_slot;
-  nothing_in_other_home = at_other_home;
+  nothing_in_unlike = at_unlike;
   nothing_in_just_enough = at_just_enough;
 }
