@@ -4,6 +4,8 @@ ghost use Rattle.image_rows.specs.Walks.{BadPointerRows, BadInodeRows};
 ghost use Rattle.image_rows.specs.Nodes.{MixedBlockRows, BadTailRows, BadDirectoryRows, NotATreeRows};
 ghost use Rattle.image_rows.specs.Spaces.{WrongCountRows, NoReserveRows};
 ghost use Rattle.image_rows.specs.Orders.{OrderRows};
+ghost use Rattle.image_rows.specs.Logs.{BadLogRows};
+ghost use Rattle.image_rows.specs.Fresh.{FreshIsMet};
 ghost use Rattle.image_rows.specs.Sound.{SoundImages};
 
 /// In these images there is no root.
@@ -64,4 +66,14 @@ pub fn order_rows()
 /// In these images nothing is found.
 pub fn sound_images()
     ensures { SoundImages }
+{}
+
+/// In these images the log has a bad record, or too few.
+pub fn bad_log_rows()
+    ensures { BadLogRows }
+{}
+
+/// What a format leaves can be met.
+pub fn fresh_is_met()
+    ensures { FreshIsMet }
 {}
