@@ -19,7 +19,7 @@ use Rattle.place_words.proofs.Totals.{different_part}
 use Rattle.tree_model.specs.Path.{Path, name_eq}
 use Rattle.image_model.specs.declared.finding.Finding.TheVariants.{NotATree}
 use Rattle.image_model.specs.Entries.{Entry, is_of, entry_at, leads, times_named, entries_in, entries_of}
-use Rattle.image_model.specs.Nodes.{has_twin, is_entry_name, number_named, names_of, reached_in, is_lost, lost_finding, tree_finding}
+use Rattle.image_model.specs.Nodes.{has_twin, is_entry_name, number_named, names_of, reached_in, is_lost, or_behind, lost_finding, tree_finding}
 use Rattle.image_model.specs.Seen.{Seen, seen_from}
 use Rattle.image_model.specs.Slots.{slots_of, inode_of, number_in, number_along}
 use Rattle.image_model.specs.Sound.{IsSound}
@@ -456,7 +456,7 @@ module _ (read : Blocks) (at : ℕ) (homes : List ℕ) (count : ℕ) (g : Layout
 
   none_from : (n k : ℕ) → lost_finding s (names_of s nodes) (reached_in s (length nodes)) n k ≡ None
   none_from n zero = refl
-  none_from n (suc k) = ap (λ (t : Bool). cond t (Some (NotATree n)) (lost_finding s (names_of s nodes) (reached_in s (length nodes)) (n + 1) k)) (here_not_lost n) ∙ none_from (n + 1) k
+  none_from n (suc k) = ap (λ (t : Bool). or_behind t (NotATree n) (λ _. lost_finding s (names_of s nodes) (reached_in s (length nodes)) (n + 1) k)) (here_not_lost n) ∙ none_from (n + 1) k
 
   pub none_lost : tree_finding s ≡ None
   unfolding tree_finding

@@ -20,7 +20,7 @@ use Rattle.image_model.specs.declared.finding.Finding.TheVariants.{NotATree}
 use Rattle.image_model.specs.Entries.{Entry, is_of, entry_at, leads, times_named, NamesOnce, entries_in, entries_of}
 use Rattle.image_model.specs.Findings.{walk_finding, mixed_finding, body_finding}
 use Rattle.image_model.specs.Met.{Met, index}
-use Rattle.image_model.specs.Nodes.{has_twin, is_entry_name, is_slot_spelled, number_named, names_of, reached_in, is_lost, lost_finding, tail_finding, directory_finding, tree_finding}
+use Rattle.image_model.specs.Nodes.{has_twin, is_entry_name, is_slot_spelled, number_named, names_of, reached_in, is_lost, or_behind, lost_finding, tail_finding, directory_finding, tree_finding}
 use Rattle.image_model.specs.Planned.{node_trees}
 use Rattle.image_model.specs.Seen.{Seen, Held, seen, seen_from, all_held, page_held}
 use Rattle.image_model.specs.Slots.{slot_pieces, slots_of, slots_from, inode_of, number_in, number_along}
@@ -44,7 +44,7 @@ lost_none : (s : Seen) (named reached : List ℕ) (from k : ℕ) → lost_findin
 lost_none s named reached from zero none j lt = absurd (omega arith)
 lost_none s named reached from (suc k) none j lt = by (is_lost s named reached from) refl none j lt (lost_none s named reached (from + 1) k)
   where
-    by : (t : Bool) → is_lost s named reached from ≡ t → cond t (Some (NotATree from)) (lost_finding s named reached (from + 1) k) ≡ None → (j : ℕ) → j < suc k
+    by : (t : Bool) → is_lost s named reached from ≡ t → or_behind t (NotATree from) (λ _. lost_finding s named reached (from + 1) k) ≡ None → (j : ℕ) → j < suc k
         → (lost_finding s named reached (from + 1) k ≡ None → (j : ℕ) → j < k → is_lost s named reached ((from + 1) + j) ≡ false) → is_lost s named reached (from + j) ≡ false
     by true is none j lt more = cc
     by false is none zero lt more = subst (λ (n : ℕ). is_lost s named reached n ≡ false) (sym (add-zero from)) is

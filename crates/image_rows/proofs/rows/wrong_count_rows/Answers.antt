@@ -9,8 +9,12 @@ use Rattle.image_model.specs.Roots.{root_finding}
 use Rattle.image_model.specs.Seen.{seen}
 use Rattle.image_model.specs.Slots.{slots_from}
 use Rattle.image_model.specs.Walk.{walk, inodes_from}
-use Rattle.image_rows.proofs.rows.fresh_image.Goals as goal
+use Rattle.image_rows.proofs.Late.{at_third_pointer, at_counted_behind}
+use Rattle.image_rows.proofs.rows.wrong_count_rows.Goals as goal
 
 pub returns : goal.returns
 unfolding words inode_in root_in slot_in body_finding tree_finding root_finding seen slots_from walk inodes_from
-returns c = refl
+returns c = record {
+  found_in_third_pointer = at_third_pointer;
+  found_in_counted_behind = at_counted_behind;
+}
