@@ -152,3 +152,40 @@ for_now_coherent r m c (answered given) positive is legal = by (is_due m c && is
 
 pub always_coherent : AlwaysCoherent
 always_coherent = record { at_first = mounted_coherent; later = next_coherent; for_now = for_now_coherent }
+
+-- ---- every state that is reached
+
+reached_coherent : (r : Rules) (m : Machine) → 0 < r.threshold → IsReached r m → IsCoherent r m
+reached_coherent r m positive (mount s is) = mounted_coherent r s is
+reached_coherent r m positive (answer before c given reached legal) = next_coherent r before c given positive (reached_coherent r before positive reached) legal
+reached_coherent r m positive (answer_for_now before c given reached legal) = for_now_coherent r before c given positive (reached_coherent r before positive reached) legal
+
+pub stored_is_mountable : StoredIsMountable
+stored_is_mountable r m positive reached = (reached_coherent r m positive reached).mountable
+
+pub places_are_in_files : PlacesAreInFiles
+places_are_in_files r m positive reached = (reached_coherent r m positive reached).in_files
+
+pub kept_stays : KeptStays
+kept_stays r m positive reached = (reached_coherent r m positive reached).unchanged
+
+pub holes_read : HolesRead
+holes_read r m positive reached = (reached_coherent r m positive reached).holes
+
+pub blocks_have_bytes : BlocksHaveBytes
+blocks_have_bytes r m positive reached = (reached_coherent r m positive reached).mountable.same
+
+pub fingerprints_are_true : FingerprintsAreTrue
+fingerprints_are_true r m positive reached = (reached_coherent r m positive reached).fingerprints
+
+pub stores_itself : StoresItself
+stores_itself r m positive reached = (reached_coherent r m positive reached).what_it_stores
+
+wide : (tree : Tree) → IsTree tree → IsWide tree
+wide tree is path node width stands content = (is.widths path node.number width (stands ∙ (λ i. Some (record { number = node.number; content = content i })))).0
+
+pub directories_are_wide : DirectoriesAreWide
+directories_are_wide = record {
+  now = λ r m positive reached. wide m.tree (reached_coherent r m positive reached).tree;
+  stored = λ r m positive reached. wide m.stored_tree (reached_coherent r m positive reached).mountable.tree;
+}
