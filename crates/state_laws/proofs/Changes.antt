@@ -1,5 +1,5 @@
 -- What each accepted change does to the places of files.
-use Rattle.std.proofs.Common.{◌≡◌, ℕ, ◌+◌, ◌-◌, ◌/◌, ◌<◌, Bool, true, false, cond, List, [], ◌∷◌, ◌++◌, length, Some, None, inl, inr, refl, sym, ap, subst, ◌∙◌, arith}
+use Rattle.std.proofs.Common.{◌≡◌, ℕ, Bool, true, false, cond, List, [], ◌∷◌, ◌++◌, length, Some, None, inl, inr, refl, sym, ap, subst, ◌∙◌, arith}
 use Rattle.std.specs.Prelude.{◌⊎◌, Option, Result, Ok, Err, is_some, max}
 use Rattle.std.specs.Result.{result_err}
 use Rattle.place_words.specs.Different.{up}
@@ -12,20 +12,19 @@ use Rattle.tree_model.specs.declared.refusal.Refusal.{Refusal}
 use Rattle.tree_model.specs.declared.refusal.Refusal.TheVariants.{Exists, NoNumbers}
 use Rattle.tree_model.specs.declared.reply.Reply.{Reply}
 use Rattle.tree_model.specs.Path.{Path, parent_of, strip}
-use Rattle.tree_model.specs.Shape.{IsTree, came_from}
+use Rattle.tree_model.specs.Shape.{IsTree}
 use Rattle.tree_model.specs.Step.{step, attempt, settled, refuse_if, or_refuse, walk, bytes_of, written_tree, is_change}
-use Rattle.tree_model.specs.Touched.{touched, touched_by, where_accepted, written_places, truncated_places}
+use Rattle.tree_model.specs.Touched.{touched_by, where_accepted, written_places, truncated_places}
 use Rattle.tree_model.specs.Tree.{Tree, node_at, with_node, without, with_width, with_content_width, widened, moved, entries_of, least_unused, resized, written}
 use Rattle.tree_model.proofs.Accepted.{with_ok, walked, is_file, nothing}
 use Rattle.tree_model.proofs.AttemptLaws.{Accepts, put_at}
-use Rattle.tree_model.proofs.Fronts.{tie, tie_is, tie_itself, strip_is}
+use Rattle.tree_model.proofs.Fronts.{tie, tie_is, strip_is}
 use Rattle.tree_model.proofs.Lookups.{IsClear, moved_at}
 use Rattle.tree_model.proofs.Renames.{origin, at_below, at_other}
 use Rattle.tree_model.proofs.StepShapes.{is_clear}
 use Rattle.tree_model.proofs.StepWidths.{keeps_tree}
 use Rattle.volume_model.specs.Done.{cut_by, cut_to, is_cut}
-use Rattle.volume_model.specs.Places.{Spot, has_spot}
-use Rattle.state_laws.specs.Accepted.{IsAccepted}
+use Rattle.volume_model.specs.Places.{has_spot}
 use Rattle.state_laws.specs.Files.{PlacesFollow}
 use Rattle.state_laws.specs.Laws.{ChangesFollow}
 use Rattle.state_laws.proofs.FilesFollow.{files_stay, file_follows, node_leaves}

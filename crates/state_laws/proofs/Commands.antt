@@ -5,7 +5,6 @@ use Rattle.std.specs.declared.cmp.Ordering.{Ordering}
 use Rattle.std.specs.declared.cmp.Ordering.TheVariants.{Less, Equal, Greater}
 use Rattle.std.proofs.lemmas.List.Elements.{All-nil}
 use Rattle.tree_model.specs.declared.command.Command.{Command}
-use Rattle.tree_model.specs.Shape.{IsTree}
 use Rattle.tree_model.specs.Step.{step}
 use Rattle.tree_model.specs.Touched.{touched}
 use Rattle.tree_model.specs.Tree.{Tree}
@@ -13,6 +12,7 @@ use Rattle.tree_model.proofs.StepWidths.{keeps_tree}
 use Rattle.volume_model.specs.Done.{is_cut, cut_by, done, all_done, mounted}
 use Rattle.volume_model.specs.Machine.{Machine, Rules, Stored, stored, at_point, block_at, held}
 use Rattle.volume_model.specs.Places.{Spot, Places, spot_cmp, spot_eq, has_spot, spots_of, by_order, with_spot, with_spots}
+use Rattle.volume_model.proofs.CacheLists.{stays_a_cache_list, eight_at_most}
 use Rattle.volume_model.proofs.Order.{spot_tie}
 use Rattle.volume_model.proofs.PointSpace.{left_has}
 use Rattle.volume_model.proofs.WholeLaws.{always_whole, done_whole}
@@ -165,6 +165,8 @@ done_coherent r m command is one =
       in_files = files_now m command follow is.in_files;
       unchanged = unchanged_now m command follow is.unchanged;
       holes = holes_now m command follow is.holes;
+      cache = is.cache;
+      few_kin = is.few_kin;
       fingerprints = is.fingerprints;
       what_it_stores = stores_now m command is.what_it_stores;
     }
@@ -183,6 +185,8 @@ first_coherent r s is = record {
   in_files = λ spot e. is.in_files spot (kept_alone (has_spot (spots_of s.places) spot) e);
   unchanged = λ spot e. refl;
   holes = λ spot e. is.holes spot (none_kept (has_spot (spots_of s.places) spot) e);
+  cache = stays_a_cache_list.at_first r.capacity;
+  few_kin = eight_at_most.at_first;
   fingerprints = All-nil (λ (pair : List ℕ × ℕ). option_map r.fingerprint (held (at_point s.layout s.tree s.places s.point []) pair.1) ≡ Some pair.0);
   what_it_stores = refl;
 }

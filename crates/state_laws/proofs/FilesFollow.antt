@@ -11,7 +11,7 @@ use Rattle.tree_model.specs.Tree.{Tree, node_at, with_node, without}
 use Rattle.tree_model.proofs.AttemptLaws.{put_at}
 use Rattle.tree_model.proofs.Fronts.{tie, tie_is, tie_itself, tie_same}
 use Rattle.tree_model.proofs.Lookups.{without_at}
-use Rattle.volume_model.specs.Done.{Cut, is_cut}
+use Rattle.volume_model.specs.Done.{is_cut}
 use Rattle.volume_model.specs.Machine.{block_at}
 use Rattle.volume_model.specs.Places.{Spot}
 use Rattle.state_laws.specs.Files.{HasPlace, PlacesFollow, zero_block}

@@ -3,6 +3,7 @@ pub mod Changes
 pub mod Commands
 pub mod FilesFollow
 pub mod FilesNumbered
+pub mod FreshState
 pub mod HeldBytes
 pub mod PointBytes
 pub mod ReachedStates

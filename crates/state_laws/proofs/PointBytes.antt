@@ -1,26 +1,23 @@
 -- After a point, places with one block have the same bytes.
-use Rattle.std.proofs.Common.{◌≡◌, ℕ, zero, suc, ◌+◌, ◌<◌, ◌≤◌, Bool, true, false, List, [], ◌∷◌, ◌++◌, map, length, Some, None, refl, sym, ap, subst, ◌∙◌, arith}
-use Rattle.std.specs.Prelude.{◌&&◌, ◌||◌, Option, nat_eq, All}
+use Rattle.std.proofs.Common.{◌≡◌, ℕ, zero, suc, ◌+◌, ◌<◌, ◌≤◌, Bool, true, false, List, [], ◌∷◌, ◌++◌, map, Some, None, refl, sym, ap, subst, ◌∙◌, arith}
+use Rattle.std.specs.Prelude.{◌||◌, Option, All}
 use Rattle.std.specs.FinMap.{find}
-use Rattle.std.proofs.lemmas.Bool.Decides.{nat_tests}
 use Rattle.std.proofs.lemmas.List.Concat.{flat_map-cons}
 use Rattle.std.proofs.lemmas.List.Elements.{All-head, All-tail}
-use Rattle.place_words.specs.Different.{different, span, is_among, Distinct}
+use Rattle.place_words.specs.Different.{span, is_among, Distinct}
 use Rattle.tree_model.specs.declared.report.Line.{Line}
 use Rattle.tree_model.specs.declared.report.Report.{Report}
 use Rattle.volume_model.specs.Cache.{is_cached}
 use Rattle.volume_model.specs.Lines.{line_places, lines_places}
 use Rattle.volume_model.specs.Machine.{Machine, Rules, block_at, held}
-use Rattle.volume_model.specs.Places.{Spot, Places, spot_cmp, has_spot, spots_of, blocks_of, is_block, unplaced, InOrder}
-use Rattle.volume_model.specs.Point.{IsPoint, share_lines, fresh_spots, placed_after, fresh_in}
+use Rattle.volume_model.specs.Places.{Spot, Places, spot_cmp, has_spot, spots_of, blocks_of, is_block, unplaced}
+use Rattle.volume_model.specs.Point.{share_lines, fresh_spots, placed_after, fresh_in}
 use Rattle.volume_model.specs.ReportLaws.{IsReport, HasEqualBytes, fresh_places}
-use Rattle.volume_model.specs.Short.{kept_and_dirty}
 use Rattle.volume_model.proofs.Cached.{found_block}
 use Rattle.volume_model.proofs.LineLaws.{fresh_are_unused, placed_blocks}
 use Rattle.volume_model.proofs.PlacesTold.{or_else, looked_up, long}
-use Rattle.volume_model.proofs.PointSpace.{has, after_has, all_put_has, zero_spots}
+use Rattle.volume_model.proofs.PointSpace.{after_has, all_put_has, zero_spots}
 use Rattle.volume_model.proofs.SharedBytes.{shares_equal}
-use Rattle.volume_model.proofs.WholeLaws.{point_whole}
 use Rattle.state_laws.specs.Files.{HasSameBytes}
 use Rattle.state_laws.specs.States.{is_held, KeptIsUnchanged}
 use Rattle.state_laws.proofs.HeldBytes.{AllEntries, found_entry, found_spot, held_is, all_different, one_spot}

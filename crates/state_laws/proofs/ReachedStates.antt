@@ -1,35 +1,33 @@
 -- Each legal answer leaves a state coherent, and so every state that is reached is.
-use Rattle.std.proofs.Common.{◌≡◌, ℕ, ◌<◌, Bool, true, false, cond, [], Some, None, inl, inr, refl, sym, ap, subst, ◌∙◌}
-use Rattle.std.specs.Prelude.{◌&&◌, ◌||◌, Option, is_some, IsTrue, ◌⊎◌}
+use Rattle.std.proofs.Common.{◌≡◌, ◌<◌, Bool, true, false, cond, Some, None, inl, inr, refl, sym, ap, subst, ◌∙◌}
+use Rattle.std.specs.Prelude.{◌&&◌, ◌||◌, Option}
 use Rattle.tree_model.specs.declared.command.Command.{Command}
 use Rattle.tree_model.specs.declared.command.Command.TheVariants.{Layout, Space, Checkpoint, End}
-use Rattle.tree_model.specs.declared.node.Content.TheVariants.{Directory}
-use Rattle.tree_model.specs.declared.node.Node.{Node}
 use Rattle.tree_model.specs.declared.refusal.Refusal.{Refusal}
 use Rattle.tree_model.specs.declared.refusal.Refusal.TheVariants.{NoSpace}
 use Rattle.tree_model.specs.declared.reply.Reply.{Reply}
 use Rattle.tree_model.specs.declared.reply.Reply.TheVariants as reply
 use Rattle.tree_model.specs.declared.report.Answer.{Answer}
 use Rattle.tree_model.specs.declared.report.Report.{Report}
-use Rattle.tree_model.specs.Path.{Path}
 use Rattle.tree_model.specs.Shape.{IsTree}
 use Rattle.tree_model.specs.Step.{step, is_change, refusal_of}
-use Rattle.tree_model.specs.Tree.{Tree, node_at}
+use Rattle.tree_model.specs.Tree.{Tree}
 use Rattle.tree_model.proofs.RefusalLaws.{refusal_tells}
 use Rattle.space_account.specs.Charge.{need}
 use Rattle.volume_model.specs.Done.{done}
 use Rattle.volume_model.specs.Legal.{IsLegal, Replies, MayReport, changes, is_full, is_due, is_done, is_excuse, is_outside, reply_to, when_answered, next}
-use Rattle.volume_model.specs.Machine.{Machine, Rules, Stored, stored, block_at, free_of}
+use Rattle.volume_model.specs.Machine.{Machine, Rules, block_at, free_of}
 use Rattle.volume_model.specs.Places.{Spot, has_spot, spots_of}
 use Rattle.volume_model.specs.Point.{IsPoint, after_point, placed_after, fresh_in}
 use Rattle.volume_model.specs.ReportLaws.{IsReport}
 use Rattle.volume_model.specs.Short.{AnswerForNow, answered, point_short, IsLegalForNow, next_for_now, is_short}
 use Rattle.volume_model.specs.Whole.{IsWhole}
+use Rattle.volume_model.proofs.CacheLists.{stays_a_cache_list, eight_at_most}
 use Rattle.volume_model.proofs.WholeLaws.{point_whole}
 use Rattle.state_laws.specs.Accepted.{IsAccepted}
 use Rattle.state_laws.specs.Files.{HasPlace, zero_block}
-use Rattle.state_laws.specs.Laws.{AlwaysCoherent, StoredIsMountable, PlacesAreInFiles, KeptStays, HolesRead, BlocksHaveBytes, FingerprintsAreTrue, StoresItself, DirectoriesAreWide}
-use Rattle.state_laws.specs.States.{IsMountable, is_held, IsCoherent, IsWide, IsReached, mount, answer, answer_for_now}
+use Rattle.state_laws.specs.Laws.{AlwaysCoherent, StoredIsMountable, PlacesAreInFiles, KeptStays, HolesRead, BlocksHaveBytes, CacheListsAre, FingerprintsAreTrue, StoresItself, DirectoriesAreWide}
+use Rattle.state_laws.specs.States.{IsCoherent, IsWide, IsReached, mount, answer, answer_for_now}
 use Rattle.state_laws.proofs.Commands.{done_coherent, mounted_coherent}
 use Rattle.state_laws.proofs.PointBytes.{after_held, same_after}
 use Rattle.state_laws.proofs.TrueFingerprints.{fingerprints_after}
@@ -59,6 +57,8 @@ point_coherent r m report positive coherent point = record {
   in_files = λ spot e. in_files spot (first_held (has_spot (spots_of (placed_after r m (fresh_in report))) spot) e);
   unchanged = λ spot e. refl;
   holes = λ spot e. holes spot (none_held (has_spot (spots_of (placed_after r m (fresh_in report))) spot) e);
+  cache = stays_a_cache_list.after_point r m (placed_after r m (fresh_in report)) coherent.cache;
+  few_kin = eight_at_most.after_point r m (placed_after r m (fresh_in report)) coherent.few_kin;
   fingerprints = fingerprints_after r m report is coherent.mountable.same coherent.unchanged coherent.fingerprints;
   what_it_stores = refl;
 }
@@ -174,6 +174,12 @@ holes_read r m positive reached = (reached_coherent r m positive reached).holes
 
 pub blocks_have_bytes : BlocksHaveBytes
 blocks_have_bytes r m positive reached = (reached_coherent r m positive reached).mountable.same
+
+pub cache_lists_are : CacheListsAre
+cache_lists_are = record {
+  lists = λ r m positive reached. (reached_coherent r m positive reached).cache;
+  few_kin = λ r m positive reached. (reached_coherent r m positive reached).few_kin;
+}
 
 pub fingerprints_are_true : FingerprintsAreTrue
 fingerprints_are_true r m positive reached = (reached_coherent r m positive reached).fingerprints

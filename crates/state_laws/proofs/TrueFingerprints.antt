@@ -1,6 +1,6 @@
 -- After a point each cached pair has the fingerprint of its block's bytes.
 use Rattle.std.proofs.Common.{◌≡◌, ℕ, zero, suc, Bool, true, false, not, cond, List, [], ◌∷◌, length, filter, take, Some, None, refl, sym, ap, ◌∙◌}
-use Rattle.std.specs.Prelude.{◌&&◌, ◌||◌, Option, nat_eq, nat_lt, All, option_map}
+use Rattle.std.specs.Prelude.{◌&&◌, ◌||◌, Option, nat_eq, nat_lt, option_map}
 use Rattle.std.specs.List.{AllByRecursion, list_any}
 use Rattle.std.specs.FinMap.{find}
 use Rattle.std.proofs.lemmas.Bool.Decides.{nat_tests}
@@ -17,7 +17,7 @@ use Rattle.volume_model.proofs.Cached.{or_later}
 use Rattle.volume_model.proofs.WholeLaws.{point_whole}
 use Rattle.state_laws.specs.Files.{HasSameBytes}
 use Rattle.state_laws.specs.States.{KeptIsUnchanged, HasTrueFingerprints}
-use Rattle.state_laws.proofs.HeldBytes.{held_is, HasBlock, block_spot}
+use Rattle.state_laws.proofs.HeldBytes.{held_is, block_spot}
 use Rattle.state_laws.proofs.PointBytes.{same_after, held_after}
 
 -- ---- what holds of each pair stays so in uses
@@ -93,14 +93,14 @@ kept_pairs P Q test pairs (q ∷ qs) each all cached = by (test q) refl (kept_pa
 
 -- ---- the cache list after a point
 
-abbrev IsOf : Rules → Machine → Pair → Type 0
-IsOf r m p = option_map r.fingerprint (held m p.1) ≡ Some p.0
+abbrev HasItsFingerprint : Rules → Machine → Pair → Type 0
+HasItsFingerprint r m p = option_map r.fingerprint (held m p.1) ≡ Some p.0
 
 pub fingerprints_after : (r : Rules) (m : Machine) (report : Report) → IsReport r m report → HasSameBytes m.stored_tree m.stored_places → KeptIsUnchanged m → HasTrueFingerprints r m
     → HasTrueFingerprints r (after_point r m (fresh_in report))
 fingerprints_after r m report is same unchanged true_before =
-    let Q : Pair → Type 0 = IsOf r (after_point r m (fresh_in report)) in
-    let P : Pair → Type 0 = IsOf r m in
+    let Q : Pair → Type 0 = HasItsFingerprint r (after_point r m (fresh_in report)) in
+    let P : Pair → Type 0 = HasItsFingerprint r m in
     All-from_recursion Q (after_point r m (fresh_in report)).cache
     (places_all Q r m.tree placed m.dirty (filter (λ (p : Pair). is_block placed p.1) m.cache) used
     (kept_pairs P Q (λ (p : Pair). is_block placed p.1) m.cache m.cache kept (recursion_from_All P m.cache true_before) (all_cached m.cache)))

@@ -1,5 +1,5 @@
 -- Which places of a file change in a write and in a truncation.
-use Rattle.std.proofs.Common.{◌≡◌, ℕ, zero, suc, ◌+◌, ◌-◌, ◌*◌, ◌/◌, ◌%◌, ◌<◌, ◌≤◌, Bool, true, false, not, cond, List, [], ◌∷◌, ◌++◌, length, take, drop, Some, None, refl, sym, ap, subst, ◌∙◌, arith, slice_index_or, length-append, length-drop}
+use Rattle.std.proofs.Common.{◌≡◌, ℕ, zero, suc, ◌+◌, ◌-◌, ◌*◌, ◌/◌, ◌%◌, ◌<◌, ◌≤◌, Bool, true, false, not, cond, List, [], ◌∷◌, ◌++◌, length, drop, Some, refl, sym, ap, subst, ◌∙◌, arith, slice_index_or, length-append, length-drop}
 use Rattle.std.specs.Prelude.{◌&&◌, ◌||◌, nat_eq, nat_le, nat_lt, Contains}
 use Rattle.std.proofs.lemmas.Bool.Decides.{nat_tests}
 use Rattle.std.proofs.lemmas.List.{get_or_past}
@@ -8,7 +8,7 @@ use Rattle.tree_model.specs.declared.node.Content.TheVariants.{File}
 use Rattle.tree_model.specs.Tree.{resized, written}
 use Rattle.tree_model.specs.Touched.{places, cut_place}
 use Rattle.tree_model.proofs.ByteLaws.{length_resized, write_keeps, truncate_keeps}
-use Rattle.volume_model.specs.Done.{Cut, is_cut}
+use Rattle.volume_model.specs.Done.{is_cut}
 use Rattle.volume_model.specs.Places.{Spot, spot_eq, has_spot}
 use Rattle.state_laws.proofs.Bytes.{block_of, same_block, is_less, is_not_less}
 use Rattle.state_laws.proofs.FilesFollow.{FileFollows}

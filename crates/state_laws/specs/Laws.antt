@@ -1,11 +1,13 @@
 -- What holds of every state that is reached.
-use Rattle.std.specs.Prelude.{◌<◌, ℕ}
+use Rattle.std.specs.Prelude.{◌<◌, ℕ, []}
+use Rattle.vol_numbers.specs.Layout.{Layout}
 use Rattle.tree_model.specs.declared.report.Answer.{Answer}
 use Rattle.tree_model.specs.declared.command.Command.{Command}
 use Rattle.tree_model.specs.Shape.{IsTree}
 use Rattle.tree_model.specs.Step.{step}
 use Rattle.tree_model.specs.Touched.{touched}
-use Rattle.tree_model.specs.Tree.{Tree}
+use Rattle.tree_model.specs.Tree.{Tree, new_tree}
+use Rattle.volume_model.specs.CacheLaws.{IsCacheList, HasFewKin}
 use Rattle.volume_model.specs.Done.{mounted, cut_by, is_cut}
 use Rattle.volume_model.specs.Legal.{IsLegal, next}
 use Rattle.volume_model.specs.Machine.{Machine, Rules, Stored, stored}
@@ -25,6 +27,10 @@ pub record AlwaysCoherent : Type 0 where
   pub at_first : (r : Rules) (s : Stored) → IsMountable s → IsCoherent r (mounted s)
   pub later : (r : Rules) (m : Machine) (command : Command) (answer : Answer) → 0 < r.threshold → IsCoherent r m → IsLegal r m command answer → IsCoherent r (next r m command answer)
   pub for_now : (r : Rules) (m : Machine) (command : Command) (given : AnswerForNow) → 0 < r.threshold → IsCoherent r m → IsLegalForNow r m command given → IsCoherent r (next_for_now r m command given)
+
+-- What a format leaves can be mounted: the root alone, no place and no record.
+abbrev pub FreshIsMountable : Type 0
+FreshIsMountable = (layout : Layout) (point : ℕ) → IsMountable (record { layout = layout; tree = new_tree; places = []; records = []; point = point })
 
 -- it holds of every state that is reached
 abbrev pub Always : (Rules → Machine → Type 0) → Type 0
@@ -49,6 +55,11 @@ HolesRead = Always (λ r m. HolesAreZeros m)
 -- Places with the same block have the same bytes at the last point.
 abbrev pub BlocksHaveBytes : Type 0
 BlocksHaveBytes = Always (λ r m. HasSameBytes m.stored_tree m.stored_places)
+
+-- The cache list is one, with at most eight pairs of a fingerprint.
+pub record CacheListsAre : Type 0 where
+  pub lists : Always (λ r m. IsCacheList r.capacity m.cache)
+  pub few_kin : Always (λ r m. HasFewKin m.cache)
 
 -- Each cached pair has the fingerprint of its block's bytes.
 abbrev pub FingerprintsAreTrue : Type 0

@@ -1,5 +1,5 @@
 -- What holds of stored states that can be mounted, and of the states that are reached from these.
-use Rattle.std.specs.Prelude.{◌≡◌, ◌≤◌, ℕ, Bool, true, false, ◌||◌, length, Some, None, All, option_map}
+use Rattle.std.specs.Prelude.{◌≡◌, ◌≤◌, ℕ, Bool, true, false, ◌||◌, length, Some, All, option_map}
 use Rattle.tree_model.specs.declared.node.Content.TheVariants.{Directory}
 use Rattle.tree_model.specs.declared.node.Node.{Node}
 use Rattle.tree_model.specs.declared.report.Answer.{Answer}
@@ -7,6 +7,7 @@ use Rattle.tree_model.specs.declared.command.Command.{Command}
 use Rattle.tree_model.specs.Path.{Path}
 use Rattle.tree_model.specs.Shape.{IsTree}
 use Rattle.tree_model.specs.Tree.{Tree, node_at, entries_of}
+use Rattle.volume_model.specs.CacheLaws.{IsCacheList, HasFewKin}
 use Rattle.volume_model.specs.Done.{mounted}
 use Rattle.volume_model.specs.Legal.{IsLegal, next}
 use Rattle.volume_model.specs.Machine.{Machine, Rules, Stored, stored, block_at, held}
@@ -64,10 +65,12 @@ pub record IsCoherent (r : Rules) (m : Machine) : Type 0 where
   pub in_files : IsInFiles m
   pub unchanged : KeptIsUnchanged m
   pub holes : HolesAreZeros m
+  pub cache : IsCacheList r.capacity m.cache
+  pub few_kin : HasFewKin m.cache
   pub fingerprints : HasTrueFingerprints r m
   pub what_it_stores : IsWhatItStores m
 
--- the states that are reached from a mounted volume by legal answers, those of now included
+-- the states that are reached from a mounted volume by answers that are legal, or legal for now
 pub data IsReached (r : Rules) : Machine → Type 0 where
   mount : (s : Stored) → IsMountable s → IsReached r (mounted s)
   answer : (m : Machine) (command : Command) (given : Answer) → IsReached r m → IsLegal r m command given → IsReached r (next r m command given)

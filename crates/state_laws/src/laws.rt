@@ -1,9 +1,14 @@
 //! Laws of the states that are reached from a mounted volume, each on a function whose contract it is.
-ghost use Rattle.state_laws.specs.Laws.{AlwaysCoherent, BlocksHaveBytes, ChangesFollow, DirectoriesAreWide, FingerprintsAreTrue, HolesRead, KeptStays, PlacesAreInFiles, StoredIsMountable, StoresItself};
+ghost use Rattle.state_laws.specs.Laws.{AlwaysCoherent, BlocksHaveBytes, CacheListsAre, ChangesFollow, DirectoriesAreWide, FingerprintsAreTrue, FreshIsMountable, HolesRead, KeptStays, PlacesAreInFiles, StoredIsMountable, StoresItself};
 
 /// What an accepted change cuts off reads as zeros, what it touches is a place of a file, and no other place changes.
 pub fn changes_follow()
     ensures { ChangesFollow }
+{}
+
+/// What a format leaves can be mounted.
+pub fn fresh_is_mountable()
+    ensures { FreshIsMountable }
 {}
 
 /// A volume that was mounted is coherent, and each legal answer leaves it so.
@@ -34,6 +39,11 @@ pub fn holes_read()
 /// Places that had the same block at the last point had the same bytes.
 pub fn blocks_have_bytes()
     ensures { BlocksHaveBytes }
+{}
+
+/// The cache list has each block once, at most its capacity, and at most eight pairs of each fingerprint.
+pub fn cache_lists_are()
+    ensures { CacheListsAre }
 {}
 
 /// Each pair of the cache list has the fingerprint of the bytes that its block has.
