@@ -203,6 +203,8 @@ module _ (read : Blocks) where
       let nodes = nodes_at read at in
       let root = root_met nodes in
       let blocks = second (entries_met es) (blocks_met read 0 es ++ (root ++ below nodes)) all.1 in
-      let nodes_past = second root (below nodes) (second (blocks_met read 0 es) (root ++ below nodes) blocks) in
-      (tt, both (entries_met es) _ (entries_none es) (both (blocks_met read 0 es) _ (blocks_none 0 es nodes_past)
-      (both root _ (root_none (list_any (λ (node : ℕ × Inode). node.0 == 1 && is_directory node.1) nodes)) (below_none nodes))))
+      let nodes_past = second root (below nodes) (second (blocks_met read 0 es) (root ++ below nodes) blocks) in (
+        tt,
+        both (entries_met es) _ (entries_none es) (both (blocks_met read 0 es) _ (blocks_none 0 es nodes_past)
+            (both root _ (root_none (list_any (λ (node : ℕ × Inode). node.0 == 1 && is_directory node.1) nodes)) (below_none nodes))),
+      )

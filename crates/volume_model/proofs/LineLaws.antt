@@ -201,7 +201,7 @@ placed_in_order (s ∷ ss) (b ∷ bs) ordered = both (below_all spot_cmp s (plac
     both true b e f = f
     both false b e f = cc
 
-placed_blocks : (spots : List Spot) (blocks : List ℕ) → length blocks ≡ length spots → blocks_of (placed_at spots blocks) ≡ blocks
+pub placed_blocks : (spots : List Spot) (blocks : List ℕ) → length blocks ≡ length spots → blocks_of (placed_at spots blocks) ≡ blocks
 placed_blocks [] [] e = refl
 placed_blocks [] (b ∷ bs) e = absurd (omega (arith, e))
 placed_blocks (s ∷ ss) [] e = absurd (omega (arith, e))

@@ -26,7 +26,7 @@ use Rattle.volume_model.proofs.WholeLaws.{same_spot, or_first_none, or_second_no
 
 -- ---- look-ups
 
-abbrev or_else : Option ℕ → Option ℕ → Option ℕ
+abbrev pub or_else : Option ℕ → Option ℕ → Option ℕ
 or_else None later = later
 or_else (Some block) later = Some block
 
@@ -38,13 +38,13 @@ tied Less e = cc
 tied Equal e = refl
 tied Greater e = cc
 
-same_by_cmp : (a b : Spot) → eq_by_cmp spot_cmp a b ≡ true → a ≡ b
+pub same_by_cmp : (a b : Spot) → eq_by_cmp spot_cmp a b ≡ true → a ≡ b
 same_by_cmp a b e = spot_tie a b (tied (spot_cmp a b) e)
 
 cmp_itself : (a : Spot) → eq_by_cmp spot_cmp a a ≡ true
 cmp_itself a = ap is_eq (tied_itself spot_total a)
 
-tie_is : (a b : Spot) → eq_by_cmp spot_cmp a b ≡ spot_eq b a
+pub tie_is : (a b : Spot) → eq_by_cmp spot_cmp a b ≡ spot_eq b a
 tie_is a b = by (eq_by_cmp spot_cmp a b) (spot_eq b a) refl refl
   where
     by : (t u : Bool) → eq_by_cmp spot_cmp a b ≡ t → spot_eq b a ≡ u → t ≡ u
@@ -53,7 +53,7 @@ tie_is a b = by (eq_by_cmp spot_cmp a b) (spot_eq b a) refl refl
     by true false e f = let own : spot_eq b a ≡ true = subst (λ (x : Spot). spot_eq x a ≡ true) (same_by_cmp a b e) (itself a) in sym own ∙ f
     by false true e f = let own : eq_by_cmp spot_cmp a b ≡ true = subst (λ (x : Spot). eq_by_cmp spot_cmp a x ≡ true) (sym (same_spot b a f)) (cmp_itself a) in sym e ∙ own
 
-find_none : (spot : Spot) (es : Places) → has_spot (spots_of es) spot ≡ false → find spot_cmp spot es ≡ None
+pub find_none : (spot : Spot) (es : Places) → has_spot (spots_of es) spot ≡ false → find spot_cmp spot es ≡ None
 find_none spot [] none = refl
 find_none spot (e ∷ es) none =
     ap (λ (t : Bool). cond t (Some e.1) (find spot_cmp spot es)) (tie_is spot e.0 ∙ or_first_none (spot_eq e.0 spot) _ none) ∙ find_none spot es (or_second_none (spot_eq e.0 spot) _ none)
@@ -176,13 +176,13 @@ all_in_order Q (l ∷ ls) all = all_with Q l (in_order ls) (All-head Q l ls all)
 -- ---- the places after the point
 
 module _ (r : Rules) (m : Machine) (report : Report) (is : IsReport r m report) where
-  abbrev shares : Places
+  abbrev pub shares : Places
   shares = lines_places (share_lines r m)
 
-  abbrev new : Places
+  abbrev pub new : Places
   new = fresh_places r m (fresh_in report)
 
-  long : length (fresh_in report) ≡ length (fresh_spots m shares)
+  pub long : length (fresh_in report) ≡ length (fresh_spots m shares)
   long = long_as r m (fresh_in report) is.point.may
 
   new_spots : (spot : Spot) → has_spot (spots_of new) spot ≡ (has_spot m.dirty spot && not (has_spot (spots_of shares) spot))
@@ -204,7 +204,7 @@ module _ (r : Rules) (m : Machine) (report : Report) (is : IsReport r m report) 
   shares_once : (spot : Spot) → spot_times (spots_of shares) spot ≤ 1
   shares_once spot = omega (arith, lines_times (share_lines r m) spot, share_once r m spot is.positive is.whole.dirty_in_order)
 
-  looked_up : (spot : Spot) → find spot_cmp spot (placed_after r m (fresh_in report)) ≡ or_else (find spot_cmp spot new) (or_else (find spot_cmp spot shares) (find spot_cmp spot m.kept))
+  pub looked_up : (spot : Spot) → find spot_cmp spot (placed_after r m (fresh_in report)) ≡ or_else (find spot_cmp spot new) (or_else (find spot_cmp spot shares) (find spot_cmp spot m.kept))
   looked_up spot = find_all_put spot new (all_put shares m.kept) (new_once spot) ∙ ap (or_else (find spot_cmp spot new)) (find_all_put spot shares m.kept (shares_once spot))
 
   not_new : (spot : Spot) → (has_spot m.dirty spot && not (has_spot (spots_of shares) spot)) ≡ false → find spot_cmp spot new ≡ None

@@ -30,10 +30,10 @@ use Rattle.volume_model.proofs.WholeLaws.{same_spot}
 
 -- ---- which places there are after the point
 
-abbrev here : Spot → ℕ → ℕ → Bool
+abbrev pub here : Spot → ℕ → ℕ → Bool
 here s n k = nat_eq s.0 n && nat_eq s.1 k
 
-abbrev has : Places → ℕ → ℕ → Bool
+abbrev pub has : Places → ℕ → ℕ → Bool
 has placed n k = has_spot (spots_of placed) (n, k)
 
 same_here : (a b : Spot) → spot_cmp a b ≡ Equal → (n k : ℕ) → here a n k ≡ here b n k
@@ -60,7 +60,7 @@ put_has spot block (e ∷ es) n k = by (spot_cmp spot e.0) refl (put_has spot bl
     by Equal is more = twice (here e.0 n k) (here spot n k) (has es n k) (sym (same_here spot e.0 is n k))
     by Greater is more = swap (here e.0 n k) (here spot n k) _ _ more
 
-all_put_has : (es placed : Places) (n k : ℕ) → has (all_put es placed) n k ≡ (has es n k || has placed n k)
+pub all_put_has : (es placed : Places) (n k : ℕ) → has (all_put es placed) n k ≡ (has es n k || has placed n k)
 all_put_has [] placed n k = refl
 all_put_has (e ∷ es) placed n k =
     all_put_has es (put spot_cmp e.0 e.1 placed) n k ∙ ap (λ (t : Bool). has es n k || t) (put_has e.0 e.1 placed n k) ∙ mixed (here e.0 n k) (has es n k) (has placed n k)
@@ -109,12 +109,12 @@ placed_spots [] blocks e = refl
 placed_spots (s ∷ ss) [] e = absurd (omega (arith, e))
 placed_spots (s ∷ ss) (b ∷ bs) e = ap (λ (spots : List Spot). s ∷ spots) (placed_spots ss bs (omega (arith, e)))
 
-zero_spots : (spots : List Spot) → spots_of (unplaced spots) ≡ spots
+pub zero_spots : (spots : List Spot) → spots_of (unplaced spots) ≡ spots
 zero_spots [] = refl
 zero_spots (s ∷ ss) = ap (λ (spots : List Spot). s ∷ spots) (zero_spots ss)
 
 -- where there are as many blocks as places for them, the places are those that were kept or dirty
-after_has : (r : Rules) (m : Machine) (fresh : List ℕ) → 0 < r.threshold → IsWhole m → length fresh ≡ length (fresh_spots m (lines_places (share_lines r m))) → (n k : ℕ)
+pub after_has : (r : Rules) (m : Machine) (fresh : List ℕ) → 0 < r.threshold → IsWhole m → length fresh ≡ length (fresh_spots m (lines_places (share_lines r m))) → (n k : ℕ)
     → has (placed_after r m fresh) n k ≡ has (kept_and_dirty m) n k
 after_has r m fresh positive whole long n k =
     let shares = lines_places (share_lines r m) in
