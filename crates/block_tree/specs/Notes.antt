@@ -7,6 +7,7 @@ use Rattle.block_format.specs.Index.{IsPointer}
 use Rattle.block_tree.specs.Tree.{Blocks, nonzero}
 use Rattle.block_tree.specs.Pages.{IsIndexPage}
 use Rattle.block_tree.specs.Edit.{portion}
+use Rattle.block_tree.specs.declared.plan.Rewritten.{Rewritten}
 use Rattle.place_words.specs.Different.{times, total, span}
 
 -- the free blocks that are left, the pages to be written, and the pointers that come and that go, with repeats
@@ -18,6 +19,10 @@ pub record Noted : Type 0 where
 
 abbrev pub no_notes : List ℕ → Noted
 no_notes free = record { free = free; pages = []; added = []; dropped = [] }
+
+-- what a plan has, and the free blocks that are left
+abbrev pub notes_in : Rewritten → List ℕ → Noted
+notes_in w free = record { free = free; pages = w.pages; added = w.added; dropped = w.dropped }
 
 -- the blocks that the pages are for
 abbrev pub page_blocks : List Page → List ℕ

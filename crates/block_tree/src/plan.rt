@@ -9,9 +9,10 @@ ghost use Rattle.block_format.specs.Index.{IsPointer};
 ghost use Rattle.block_format.specs.Inode.{blocks_of, height_of};
 ghost use Rattle.block_tree.specs.Tree.{Blocks, blocks_in, IsFull};
 ghost use Rattle.block_tree.specs.Root.{block_at, leaf_at, tree_pairs, tree_indexes, tree_pointers, IsRoot, Stays, KeepsTop};
-ghost use Rattle.block_tree.specs.Notes.{Stand, page_blocks, change_blocks};
+ghost use Rattle.block_tree.specs.Notes.{Stand, Uses, no_notes, notes_in, page_blocks, change_blocks};
+ghost use Rattle.block_tree.specs.Opened.{FitsHeight, ChangesFit, IsTreeRewritten};
 ghost use Rattle.block_tree.specs.Pages.{IsIndexPage, LeadInto};
-ghost use Rattle.block_tree.specs.Edit.{cut_at, changed_at, leaves_of, KeepsLeaf};
+ghost use Rattle.block_tree.specs.Edit.{cut_at, changed_at, leaves_of, AreInOrder, KeepsLeaf};
 ghost use Rattle.block_tree.specs.Causes.{HasTreeCause, IsTreeDamage};
 
 use crate::edit::Edit;
@@ -91,13 +92,45 @@ pub fn rewrite<D: Disk>(
     ensures cause { HasTreeCause (D.faults disk.old) (D.faults disk.new) result }
 {
     let sorted = by_leaf(alloc, changes)?;
-    let mut notes = Notes::new(alloc, free.copy()?);
     let edit = Edit {
         cut_to,
         changes: sorted.as_slice(),
         height: height_for(size),
     };
-    let new = rewrite_tree(disk, g, root, &edit, &mut notes)?;
+    let made = rewrite_in_order(alloc, disk, g, root, &edit, free)?;
+    Ok(made)
+}
+
+/// The same by changes in the order of their leaves.
+fn rewrite_in_order<D: Disk>(
+    alloc: Global,
+    disk: &mut D,
+    g: &Geometry,
+    root: &TreeRoot,
+    edit: &Edit<'_>,
+    free: &mut FreeMap,
+) -> Result<Rewritten, TreeFault>
+    requires size { (layout_of g.now).blocks ≡ (D.fixed disk.old).size }
+    requires root { IsRoot (layout_of g.now) root.now }
+    requires height { edit.now.height ≤ 2 }
+    requires changes { ChangesFit edit.now.height edit.now.changes.now }
+    requires order { AreInOrder edit.now.changes.now }
+    requires fits { IsTrue D.tells → FitsHeight (blocks_in (D.state disk.old).contents) root.now edit.now.cut_to edit.now.height }
+    requires free { different (leaves_of edit.now.changes.now) + 3 ≤ length free.old }
+    ensures rewritten { IfOk result (λ w. IsTrue D.tells → IsTreeRewritten (blocks_in (D.state disk.old).contents) root.now edit.now.changes.now edit.now.cut_to w.root (no_notes free.old) (notes_in w free.new)) }
+    ensures height { IfOk result (λ w. w.root.height ≡ edit.now.height) }
+    ensures taken { IfOk result (λ w. page_blocks w.pages ++ free.new ≡ free.old) }
+    ensures used { IfOk result (λ w. Uses edit.now.changes.now (no_notes free.old) (notes_in w free.new)) }
+    ensures sound { IfOk result (λ w. LeadInto (layout_of g.now) edit.now.changes.now → All (IsPointer (layout_of g.now)) free.old → All (IsIndexPage (layout_of g.now)) w.pages × IsPointer (layout_of g.now) w.root.ptr) }
+    ensures unchanged { OnErr result (free.new ≡ free.old) }
+    ensures damaged { IsTreeDamage (layout_of g.now) D.tells (blocks_in (D.state disk.new).contents) (D.given disk.old) (D.given disk.new) result }
+    ensures same { IsTrue D.tells → D.state disk.new ≡ D.state disk.old }
+    ensures moments { IsTrue D.tells → Adds (D.past disk.old) (D.past disk.new) (λ s. s ≡ D.state disk.old) }
+    ensures fixed { D.fixed disk.new ≡ D.fixed disk.old }
+    ensures cause { HasTreeCause (D.faults disk.old) (D.faults disk.new) result }
+{
+    let mut notes = Notes::new(alloc, free.copy()?);
+    let new = rewrite_tree(disk, g, root, edit, &mut notes)?;
     Ok(notes.into_rewritten(new, free))
 }
 

@@ -157,12 +157,17 @@ fn rewrite_to_block<D: Disk>(
     ensures fixed { D.fixed disk.new ≡ D.fixed disk.old }
     ensures cause { HasTreeCause (D.faults disk.old) (D.faults disk.new) result }
 {
-    let opened = open_tree(disk, g, root)?;
-    let mut leaves = opened.leaves;
-    let ptr = give_way(disk, g, root, leaves.ptrs[0], edit, notes)?;
-    leaves.ptrs[0] = 0;
-    let end = end_of(root.height, 0);
-    rewrite_rest(disk, g, &mut leaves, end, edit, notes)?;
+    let mut opened = open_tree(disk, g, root)?;
+    let ptr = give_way(disk, g, root, opened.leaves.ptrs[0], edit, notes)?;
+    opened.leaves.ptrs[0] = 0;
+    rewrite_rest(
+        disk,
+        g,
+        &mut opened.leaves,
+        end_of(root.height, 0),
+        edit,
+        notes,
+    )?;
     notes.remove(opened.top)?;
     Ok(ptr)
 }

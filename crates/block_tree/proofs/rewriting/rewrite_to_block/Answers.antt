@@ -26,7 +26,7 @@ rewrite_rest-requires-clause-leaves g c j some lt =
     (c.in_ok-opened.ensures.leaves j 0 (omega (arith, lt)))
 
 pub rewrite_rest-requires-clause-free : goal.rewrite_rest-requires-clause-free
-rewrite_rest-requires-clause-free g c = omega (arith, rest_room c.args.edit.now.changes.now c.args.edit.now.cut_to c.end_of-end.result, c.requires.free, ap length c.in_ok-ptr.ensures.free)
+rewrite_rest-requires-clause-free g c = omega (arith, rest_room c.args.edit.now.changes.now c.args.edit.now.cut_to c.end_of.result, c.requires.free, ap length c.in_ok-ptr.ensures.free)
 
 low : (height : ℕ) → height ≡ 0 → IsTrue (nat_lt height 2)
 low height e = rw e refl
@@ -40,7 +40,7 @@ returns-clause-rewritten g c tells =
     let top = c.in_ok-opened.opened.top in
     let over = nat_lt edit.height 2 in
     let is_over = low edit.height c.requires.height in
-    let end = c.end_of-end.result in
+    let end = c.end_of.result in
     let at_open : g.D.Disk.state c.open_tree.new.disk ≡ g.D.Disk.state c.args.disk.now = c.in_ok-opened.ensures.same tells in
     let at_first : g.D.Disk.state c.give_way.new.disk ≡ g.D.Disk.state c.args.disk.now = c.in_ok-ptr.ensures.same tells ∙ at_open in
     let opened = c.in_ok-opened.ensures.opened tells in
@@ -54,13 +54,13 @@ returns-clause-rewritten g c tells =
     let tree = tree_block given.long (given.places (block_at read root) opened.first_places) (c.requires.fits tells) c.requires.changes
     (λ after stand stays.
     block_settles opened (omega arith) 0 c.in_ok-rewrite_rest.ensures.takes over end c.rewrite_rest.new.leaves.ptrs rest
-    (λ ne. ((c.end_of-end.ensures.low ne).0, emptied)) c.end_of-end.ensures.at_most given.ptrs is_over refl given.settles emptied removed after
+    (λ ne. ((c.end_of.ensures.low ne).0, emptied)) c.end_of.ensures.at_most given.ptrs is_over refl given.settles emptied removed after
     (stand_same c.rewrite_rest.new.notes c.remove.new.self after pages stand) stays)
     (λ b.
     omega (
       arith,
       block_indexes opened (omega arith) 0 c.in_ok-rewrite_rest.ensures.takes over end c.rewrite_rest.new.leaves.ptrs rest
-          (λ ne. ((c.end_of-end.ensures.low ne).0, emptied)) c.end_of-end.ensures.at_most refl b,
+          (λ ne. ((c.end_of.ensures.low ne).0, emptied)) c.end_of.ensures.at_most refl b,
       ap (λ (ps : List Page). times b (page_blocks ps)) pages,
       ap (λ (ps : List Page). times b (page_blocks ps)) c.in_ok-ptr.ensures.pages,
     )) in
@@ -72,7 +72,7 @@ returns-clause-takes g c =
 
 pub returns-clause-uses : goal.returns-clause-uses
 returns-clause-uses g c =
-    uses_then (uses_all c.end_of-end.result c.in_ok-ptr.ensures.uses c.in_ok-rewrite_rest.ensures.uses)
+    uses_then (uses_all c.end_of.result c.in_ok-ptr.ensures.uses c.in_ok-rewrite_rest.ensures.uses)
     (uses_none [] c.rewrite_rest.new.notes c.remove.new.self (ap (λ (n : Noted). n.pages) c.in_ok-remove.ensures) (ap (λ (n : Noted). n.added) c.in_ok-remove.ensures))
 
 pub returns-clause-sound : goal.returns-clause-sound
