@@ -1,0 +1,5 @@
+//! The inodes of a volume in memory: by number, with the least unused number, and the inode blocks that are written afresh where they change.
+#![tactic(auto)]
+
+mod bits;
+
