@@ -1,1 +1,3 @@
 mod BitLaws
+mod BlockLaws
+mod LoadLaws

@@ -1,4 +1,5 @@
 pub mod Bits
 pub mod Counting
 pub mod Inodes
+pub mod Loading
 pub mod Rewriting

@@ -12,8 +12,8 @@ has_used (inode ∷ rest) = is_used inode || has_used rest
 
 abbrev pub is_same : Inode → Inode → Bool
 is_same Unused Unused = true
-is_same (File size height ptr) (File size' height' ptr') = size == size' && height == height' && ptr == ptr'
-is_same (Directory width height ptr) (Directory width' height' ptr') = width == width' && height == height' && ptr == ptr'
+is_same (File size height ptr) (File size' height' ptr') = size == size' && (height == height' && ptr == ptr')
+is_same (Directory width height ptr) (Directory width' height' ptr') = width == width' && (height == height' && ptr == ptr')
 is_same _ _ = false
 
 -- whether these are the same inodes

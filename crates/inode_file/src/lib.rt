@@ -2,4 +2,5 @@
 #![tactic(auto)]
 
 mod bits;
-
+mod inode_block;
+mod loading;

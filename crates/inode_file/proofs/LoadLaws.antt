@@ -1,0 +1,41 @@
+-- Inodes that are read block by block.
+use Rattle.std.proofs.Common.{◌≡◌, ◌<◌, ◌≤◌, ◌⊎◌, ⊎_elim, ℕ, zero, suc, ◌+◌, ◌-◌, ◌*◌, Bool, List, [], ◌∷◌, ◌++◌, length, take, drop, refl, ap, sym, ◌∙◌, subst, arith}
+use Rattle.std.specs.Prelude.{Result, Ok, Err, slice_index}
+use Rattle.std.proofs.lemmas.Bool.{cases_eq}
+use Rattle.std.proofs.lemmas.List.{drop-append-le, drop_at, take-append-le, take_all, length-drop, length-append}
+use Rattle.vol_numbers.specs.Layout.{Layout}
+use Rattle.disk_model.specs.Disk.{Given}
+use Rattle.block_format.specs.declared.inode.Inode.{Inode}
+use Rattle.block_tree.specs.Tree.{Blocks}
+use Rattle.block_tree.specs.declared.fault.TreeFault.{TreeFault}
+use Rattle.block_tree.specs.declared.fault.TreeFault.TheVariants.{Device, Damaged, OutOfMemory}
+use Rattle.inode_file.specs.Inodes.{block_of, LeadsTo}
+use Rattle.inode_file.specs.Loading.{IsLoadDamage}
+
+-- a call that began later
+pub damage_earlier : {T : Type 0} (g : Layout) (tells : Bool) (contents : Blocks) (index : ℕ) (old middle new : Given) (r : Result T TreeFault) → old.count ≤ middle.count
+    → IsLoadDamage g tells contents index middle new r → IsLoadDamage g tells contents index old new r
+damage_earlier g tells contents index old middle new (Ok value) le is = omega (arith, le, is)
+damage_earlier g tells contents index old middle new (Err Device) le is = tt
+damage_earlier g tells contents index old middle new (Err (Damaged b)) le is = record { number = is.number; rose = omega (arith, le, is.rose); outside = is.outside; stands = is.stands }
+damage_earlier g tells contents index old middle new (Err OutOfMemory) le is = tt
+
+-- the last 64 inodes
+pub last_block : (inodes block : List Inode) (k : ℕ) → length inodes ≡ 64 * k → length block ≡ 64 → block_of (inodes ++ block) k ≡ block
+last_block inodes block k long full = ap (λ (xs : List Inode). take 64 xs) (drop_at inodes block (64 * k) long) ∙ take_all 64 block (omega (arith, full))
+
+-- those before
+pub earlier_block : (inodes block : List Inode) (j k : ℕ) → j < k → length inodes ≡ 64 * k → block_of (inodes ++ block) j ≡ block_of inodes j
+earlier_block inodes block j k lt long =
+    ap (λ (xs : List Inode). take 64 xs) (drop-append-le (64 * j) inodes block (omega (arith, long, lt)))
+    ∙ take-append-le 64 (drop (64 * j) inodes) block (omega (arith, length-drop (64 * j) inodes, long, lt))
+
+-- one block more was read
+pub leads_more : (read : Blocks) (pointers : List ℕ) (inodes block : List Inode) (k : ℕ) → length inodes ≡ 64 * k → length block ≡ 64
+    → ((j : ℕ) → j < k → LeadsTo read (slice_index pointers j) (block_of inodes j)) → LeadsTo read (slice_index pointers k) block
+    → (j : ℕ) → j < k + 1 → LeadsTo read (slice_index pointers j) (block_of (inodes ++ block) j)
+leads_more read pointers inodes block k long full before is j lt = ⊎_elim
+    (λ (e : j ≡ k). subst (λ (i : ℕ). LeadsTo read (slice_index pointers i) (block_of (inodes ++ block) i)) (sym e)
+    (subst (λ (b : List Inode). LeadsTo read (slice_index pointers k) b) (sym (last_block inodes block k long full)) is))
+    (λ (ne : j ≡ k → ⊥). subst (λ (b : List Inode). LeadsTo read (slice_index pointers j) b) (sym (earlier_block inodes block j k (omega (arith, lt, ne)) long)) (before j (omega (arith, lt, ne))))
+    (cases_eq j k)

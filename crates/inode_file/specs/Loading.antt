@@ -1,0 +1,39 @@
+-- What loading the inodes answers.
+use Rattle.std.specs.Prelude.{◌≡◌, ◌<◌, ◌≤◌, ◌⊎◌, ◌+◌, ◌-◌, ◌^◌, ℕ, Bool, IsTrue, min, List, Result, Ok, Err}
+use Rattle.vol_numbers.specs.Layout.{Layout}
+use Rattle.disk_model.specs.Disk.{Given}
+use Rattle.block_format.specs.Index.{SpellsIndex, IsPointer}
+use Rattle.block_format.specs.Inode.{SpellsInode, inode_part, inode_shape, pointer_of}
+use Rattle.block_format.specs.declared.inode.Inode.{Inode}
+use Rattle.block_tree.specs.Tree.{Blocks}
+use Rattle.block_tree.specs.declared.fault.TreeFault.{TreeFault}
+use Rattle.block_tree.specs.declared.fault.TreeFault.TheVariants.{Device, Damaged, OutOfMemory}
+use Rattle.inode_file.specs.Inodes.{inode_of}
+
+-- an inode in shape, which points to no block or to one of the area
+pub record IsWhole (g : Layout) (inode : Inode) : Type 0 where
+  pub shape : IsTrue (inode_shape inode)
+  pub pointer : IsPointer g (pointer_of inode)
+
+-- Some inode of the block is outside the grammar.
+pub record IsNoInodeBlock (g : Layout) (bytes : List ℕ) : Type 0 where
+  pub position : ℕ
+  pub below : position < 64
+  pub outside : (inode : Inode) → SpellsInode g inode (inode_part position bytes) → ⊥
+
+-- the bytes of a block are those of no inode index, where it is to be that, and else of no inode block
+abbrev pub IsOutside : Layout → ℕ → ℕ → List ℕ → Type 0
+IsOutside g index b bytes = ((b ≡ index) × ((ptrs : List ℕ) → SpellsIndex g ptrs bytes → ⊥)) ⊎ IsNoInodeBlock g bytes
+
+-- The block that was read last in the call is this one, and is outside the grammar. Where the disk tells its contents, it is what they have there.
+pub record IsDamage (g : Layout) (tells : Bool) (contents : Blocks) (index : ℕ) (old new : Given) (b : ℕ) : Type 0 where
+  pub number : new.at ≡ b
+  pub rose : min (old.count + 1) (2 ^ 64 - 1) ≤ new.count
+  pub outside : IsOutside g index b new.block.bytes
+  pub stands : IsTrue tells → contents b ≡ new.block.bytes
+
+abbrev pub IsLoadDamage : {T : Type 0} → Layout → Bool → Blocks → ℕ → Given → Given → Result T TreeFault → Type 0
+IsLoadDamage g tells contents index old new (Ok value) = old.count ≤ new.count
+IsLoadDamage g tells contents index old new (Err Device) = Unit {0}
+IsLoadDamage g tells contents index old new (Err (Damaged b)) = IsDamage g tells contents index old new b
+IsLoadDamage g tells contents index old new (Err OutOfMemory) = Unit {0}
