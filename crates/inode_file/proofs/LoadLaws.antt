@@ -1,6 +1,7 @@
 -- Inodes that are read block by block.
 use Rattle.std.proofs.Common.{◌≡◌, ◌<◌, ◌≤◌, ◌⊎◌, ⊎_elim, ℕ, zero, suc, ◌+◌, ◌-◌, ◌*◌, Bool, List, [], ◌∷◌, ◌++◌, length, take, drop, refl, ap, sym, ◌∙◌, subst, arith}
 use Rattle.std.specs.Prelude.{Result, Ok, Err, slice_index}
+use Rattle.std.specs.Result.{IsErrAnd}
 use Rattle.std.proofs.lemmas.Bool.{cases_eq}
 use Rattle.std.proofs.lemmas.List.{drop-append-le, drop_at, take-append-le, take_all, length-drop, length-append}
 use Rattle.vol_numbers.specs.Layout.{Layout}
@@ -9,16 +10,28 @@ use Rattle.block_format.specs.declared.inode.Inode.{Inode}
 use Rattle.block_tree.specs.Tree.{Blocks}
 use Rattle.block_tree.specs.declared.fault.TreeFault.{TreeFault}
 use Rattle.block_tree.specs.declared.fault.TreeFault.TheVariants.{Device, Damaged, OutOfMemory}
-use Rattle.inode_file.specs.Inodes.{block_of, LeadsTo}
-use Rattle.inode_file.specs.Loading.{IsLoadDamage}
+use Rattle.inode_file.specs.Inodes.{block_of, inode_of, LeadsTo}
+use Rattle.inode_file.specs.Loading.{HasDamage, IsLoadDamage}
 
--- a call that began later
-pub damage_earlier : {T : Type 0} (g : Layout) (tells : Bool) (contents : Blocks) (index : ℕ) (old middle new : Given) (r : Result T TreeFault) → old.count ≤ middle.count
-    → IsLoadDamage g tells contents index middle new r → IsLoadDamage g tells contents index old new r
-damage_earlier g tells contents index old middle new (Ok value) le is = omega (arith, le, is)
-damage_earlier g tells contents index old middle new (Err Device) le is = tt
-damage_earlier g tells contents index old middle new (Err (Damaged b)) le is = record { number = is.number; rose = omega (arith, le, is.rose); outside = is.outside; stands = is.stands }
-damage_earlier g tells contents index old middle new (Err OutOfMemory) le is = tt
+-- a call that began earlier
+pub damage_earlier : (g : Layout) (tells : Bool) (contents : Blocks) (index : ℕ) (old middle new : Given) (fault : TreeFault) → old.count ≤ middle.count
+    → HasDamage g tells contents index middle new fault → HasDamage g tells contents index old new fault
+damage_earlier g tells contents index old middle new Device le is = tt
+damage_earlier g tells contents index old middle new (Damaged b) le is = record { number = is.number; rose = omega (arith, le, is.rose); outside = is.outside; stands = is.stands }
+damage_earlier g tells contents index old middle new OutOfMemory le is = tt
+
+-- whose fault is passed on
+pub damage_passed : {T : Type 0} (g : Layout) (tells : Bool) (contents : Blocks) (index : ℕ) (old middle new : Given) (r : Result T TreeFault) (fault : TreeFault)
+    → IsErrAnd r (λ f. f ≡ fault) → old.count ≤ middle.count → HasDamage g tells contents index middle new fault → IsLoadDamage g tells contents index old new r
+damage_passed g tells contents index old middle new (Ok value) fault same le is = absurd same
+damage_passed g tells contents index old middle new (Err f) fault same le is =
+    damage_earlier g tells contents index old middle new f le (subst (λ (e : TreeFault). HasDamage g tells contents index middle new e) (sym same) is)
+
+-- what holds of each inode of two lists
+pub each_more : (P : Inode → Type 0) (xs ys : List Inode) → ((n : ℕ) → P (inode_of xs n)) → ((n : ℕ) → P (inode_of ys n)) → (n : ℕ) → P (inode_of (xs ++ ys) n)
+each_more P [] ys p q n = q n
+each_more P (x ∷ xs) ys p q zero = p 0
+each_more P (x ∷ xs) ys p q (suc n) = each_more P xs ys (λ m. p (suc m)) q n
 
 -- the last 64 inodes
 pub last_block : (inodes block : List Inode) (k : ℕ) → length inodes ≡ 64 * k → length block ≡ 64 → block_of (inodes ++ block) k ≡ block

@@ -32,8 +32,12 @@ pub record IsDamage (g : Layout) (tells : Bool) (contents : Blocks) (index : ℕ
   pub outside : IsOutside g index b new.block.bytes
   pub stands : IsTrue tells → contents b ≡ new.block.bytes
 
+abbrev pub HasDamage : Layout → Bool → Blocks → ℕ → Given → Given → TreeFault → Type 0
+HasDamage g tells contents index old new Device = Unit {0}
+HasDamage g tells contents index old new (Damaged b) = IsDamage g tells contents index old new b
+HasDamage g tells contents index old new OutOfMemory = Unit {0}
+
+-- the same of an answer
 abbrev pub IsLoadDamage : {T : Type 0} → Layout → Bool → Blocks → ℕ → Given → Given → Result T TreeFault → Type 0
 IsLoadDamage g tells contents index old new (Ok value) = old.count ≤ new.count
-IsLoadDamage g tells contents index old new (Err Device) = Unit {0}
-IsLoadDamage g tells contents index old new (Err (Damaged b)) = IsDamage g tells contents index old new b
-IsLoadDamage g tells contents index old new (Err OutOfMemory) = Unit {0}
+IsLoadDamage g tells contents index old new (Err fault) = HasDamage g tells contents index old new fault

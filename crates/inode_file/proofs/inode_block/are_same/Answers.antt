@@ -19,3 +19,6 @@ each (Directory w h p) (Directory v k q) = refl
 
 pub returns-clause-test : goal.returns-clause-test
 returns-clause-test c = c.eq.ensures ∙ are_same-pointwise _ each c.args.inodes.now c.args.other.now
+
+pub returns-clause-is : goal.returns-clause-is
+returns-clause-is c is = (are_same-Decides c.args.inodes.now c.args.other.now).0 (sym (returns-clause-test c) ∙ is)
