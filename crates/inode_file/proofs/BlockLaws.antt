@@ -1,10 +1,11 @@
 -- Inodes in blocks.
-use Rattle.std.proofs.Common.{◌≡◌, ◌<◌, ℕ, zero, suc, ◌==◌, IsTrue, Bool, true, false, List, [], ◌∷◌, length, set, refl, ap, ap₂, sym, ◌∙◌, arith, inl, replicate, cond}
+use Rattle.std.proofs.Common.{◌≡◌, ◌<◌, ◌≤◌, ◌+◌, ◌*◌, ℕ, zero, suc, ◌==◌, IsTrue, Bool, true, false, List, [], ◌∷◌, length, take, drop, refl, ap, ap₂, sym, ◌∙◌, arith, inl, replicate, cond}
 use Rattle.std.specs.Prelude.{◌&&◌, bytes_eq, Some, None, Option}
 use Rattle.std.specs.Bool.{Decides}
 use Rattle.std.specs.Cmp.Lexicographic.{pointwise}
 use Rattle.std.proofs.lemmas.Bool.Decides.{nat_tests, Decides-eqb}
 use Rattle.std.proofs.lemmas.Slice.Eq.{bytes_eq-Decides, slice_eq-Decides}
+use Rattle.std.proofs.lemmas.List.{length-take-le, length-drop}
 use Rattle.vol_numbers.specs.Layout.{Layout}
 use Rattle.block_format.specs.Inode.{inode_at, inode_in, inode_bytes, inode_shape, is_inode, IsInode}
 use Rattle.block_format.specs.declared.inode.Inode.{Inode}
@@ -12,7 +13,7 @@ use Rattle.block_format.specs.declared.inode.Inode.TheVariants.{Unused, File, Di
 use Rattle.block_format.proofs.InodeLaws.{inode_in-spelled}
 use Rattle.block_format.specs.Inode.{inode_part}
 use Rattle.block_tree.specs.Tree.{Blocks}
-use Rattle.inode_file.specs.Inodes.{inode_of, LeadsTo}
+use Rattle.inode_file.specs.Inodes.{inode_of, block_of, LeadsTo}
 use Rattle.inode_file.specs.Loading.{IsWhole}
 use Rattle.inode_file.specs.Rewriting.{is_same, are_same}
 
@@ -39,6 +40,24 @@ pub unused_in : (n j : ℕ) → inode_of (replicate n Unused) j ≡ Unused
 unused_in zero j = refl
 unused_in (suc n) zero = refl
 unused_in (suc n) (suc j) = unused_in n j
+
+-- what holds of each inode holds of those of a block
+each_taken : (P : Inode → Type 0) (k : ℕ) (xs : List Inode) → P Unused → ((n : ℕ) → P (inode_of xs n)) → (j : ℕ) → P (inode_of (take k xs) j)
+each_taken P zero xs none each j = none
+each_taken P (suc k) [] none each j = none
+each_taken P (suc k) (x ∷ xs) none each zero = each 0
+each_taken P (suc k) (x ∷ xs) none each (suc j) = each_taken P k xs none (λ n. each (suc n)) j
+
+each_left : (P : Inode → Type 0) (k : ℕ) (xs : List Inode) → P Unused → ((n : ℕ) → P (inode_of xs n)) → (j : ℕ) → P (inode_of (drop k xs) j)
+each_left P zero xs none each j = each j
+each_left P (suc k) [] none each j = none
+each_left P (suc k) (x ∷ xs) none each j = each_left P k xs none (λ n. each (suc n)) j
+
+pub each_in_block : (P : Inode → Type 0) (inodes : List Inode) (k : ℕ) → P Unused → ((n : ℕ) → P (inode_of inodes n)) → (j : ℕ) → P (inode_of (block_of inodes k) j)
+each_in_block P inodes k none each = each_taken P 64 (drop (64 * k) inodes) none (each_left P (64 * k) inodes none each)
+
+pub length-block_of : (inodes : List Inode) (k : ℕ) → 64 * k + 64 ≤ length inodes → length (block_of inodes k) ≡ 64
+length-block_of inodes k le = length-take-le 64 (drop (64 * k) inodes) (omega (arith, length-drop (64 * k) inodes, le))
 
 pub leads_nowhere : (read : Blocks) (b : ℕ) (block : List Inode) → b ≡ 0 → ((j : ℕ) → inode_of block j ≡ Unused) → LeadsTo read b block
 leads_nowhere read zero block e none = λ j lt. none j

@@ -1,3 +1,5 @@
 mod BitLaws
 mod BlockLaws
 mod LoadLaws
+mod PassingLaws
+mod RenewalLaws

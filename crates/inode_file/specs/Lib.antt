@@ -2,4 +2,5 @@ pub mod Bits
 pub mod Counting
 pub mod Inodes
 pub mod Loading
+pub mod Renewal
 pub mod Rewriting

@@ -1,5 +1,5 @@
 -- Which inode blocks are written afresh, which are kept and which are dropped.
-use Rattle.std.specs.Prelude.{ℕ, ◌+◌, ◌==◌, ◌&&◌, ◌||◌, not, if◌then◌else◌, Bool, true, false, List, [], ◌∷◌, ◌++◌, length, slice_index}
+use Rattle.std.specs.Prelude.{ℕ, ◌+◌, ◌==◌, ◌&&◌, ◌||◌, not, if◌then◌else◌, bytes_eq, Bool, true, false, List, [], ◌∷◌, ◌++◌, length, slice_index}
 use Rattle.block_format.specs.declared.inode.Inode.{Inode}
 use Rattle.block_format.specs.declared.inode.Inode.TheVariants.{Unused, File, Directory}
 use Rattle.block_tree.specs.Tree.{nonzero}
@@ -26,22 +26,30 @@ are_same _ _ = false
 abbrev pub is_current : ℕ → List Inode → List Inode → Bool
 is_current ptr was block = not (ptr == 0) && are_same was block
 
--- whether the inode block at a position has nothing to hold
-abbrev pub is_empty : InodeTable → ℕ → Bool
-is_empty t k = not (has_used (block_of t.inodes k))
+-- whether these inodes are to be written into a fresh block: one of the numbers is a node's, and no block has just these
+abbrev pub is_fresh : ℕ → List Inode → List Inode → Bool
+is_fresh ptr was block = has_used block && not (is_current ptr was block)
 
--- whether it stays, as it has something to hold and holds just that
-abbrev pub is_kept : InodeTable → ℕ → Bool
-is_kept t k = has_used (block_of t.inodes k) && is_current (slice_index t.pointers k) (block_of t.stored k) (block_of t.inodes k)
+-- whether one of the numbers at a position is a node's
+abbrev pub has_nodes : InodeTable → ℕ → Bool
+has_nodes t k = has_used (block_of t.inodes k)
+
+-- whether the inode block at a position has just its inodes
+abbrev pub is_unchanged : InodeTable → ℕ → Bool
+is_unchanged t k = is_current (slice_index t.pointers k) (block_of t.stored k) (block_of t.inodes k)
 
 -- whether it is written afresh
 abbrev pub is_written : InodeTable → ℕ → Bool
-is_written t k = has_used (block_of t.inodes k) && not (is_current (slice_index t.pointers k) (block_of t.stored k) (block_of t.inodes k))
+is_written t k = is_fresh (slice_index t.pointers k) (block_of t.stored k) (block_of t.inodes k)
+
+-- this, if it is so
+abbrev pub only_if : Bool → ℕ → List ℕ
+only_if test p = if test then p ∷ [] else []
 
 -- the pointers at the positions that pass a test, from a position on
 abbrev pub passing_from : (ℕ → Bool) → ℕ → List ℕ → List ℕ
 passing_from test k [] = []
-passing_from test k (p ∷ ps) = (if test k then p ∷ [] else []) ++ passing_from test (k + 1) ps
+passing_from test k (p ∷ ps) = only_if (test k) p ++ passing_from test (k + 1) ps
 
 -- how many inode blocks are written afresh
 abbrev pub written_blocks : InodeTable → ℕ
@@ -50,3 +58,7 @@ written_blocks t = length (passing_from (is_written t) 0 t.pointers)
 -- the pointers that lead to the inode index and to the inode blocks
 abbrev pub table_pointers : InodeTable → List ℕ
 table_pointers t = t.index ∷ nonzero t.pointers
+
+-- the blocks of the pages: the inode blocks that are written afresh, by position, and the inode index where it has other pointers
+abbrev pub written_in_order : InodeTable → InodeTable → List ℕ
+written_in_order t new = passing_from (is_written t) 0 new.pointers ++ only_if (not (bytes_eq t.pointers new.pointers)) new.index

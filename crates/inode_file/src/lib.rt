@@ -4,3 +4,5 @@
 mod bits;
 mod inode_block;
 mod loading;
+mod notes;
+mod renewal;
