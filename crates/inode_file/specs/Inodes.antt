@@ -1,6 +1,6 @@
 -- Inodes by their numbers, and the blocks that spell them.
-use Rattle.std.specs.Prelude.{◌≡◌, ◌<◌, ℕ, zero, suc, ◌*◌, Bool, true, false, List, length, take, drop, slice_index, slice_index_or, Some}
-use Rattle.block_format.specs.Inode.{inode_at, inode_part}
+use Rattle.std.specs.Prelude.{◌≡◌, ◌<◌, ℕ, zero, suc, ◌*◌, Bool, true, false, IsTrue, List, length, take, drop, slice_index, slice_index_or, Some}
+use Rattle.block_format.specs.Inode.{inode_at, inode_part, inode_shape}
 use Rattle.block_format.specs.declared.inode.Inode.{Inode}
 use Rattle.block_format.specs.declared.inode.Inode.TheVariants.{Unused, File, Directory}
 use Rattle.block_tree.specs.Tree.{Blocks, index_at}
@@ -38,6 +38,14 @@ pub record InodeTable : Type 0 where
   -- the inode block at each position, 0 where there is none, and the inode index that has these pointers
   pub pointers : List ℕ
   pub index : ℕ
+
+-- What holds of every table: each inode is in shape, and there is an inode index.
+pub record IsTable (t : InodeTable) : Type 0 where
+  pub inodes : length t.inodes ≡ 65536
+  pub stored : length t.stored ≡ 65536
+  pub pointers : length t.pointers ≡ 1024
+  pub index : 0 < t.index
+  pub shape : (n : ℕ) → IsTrue (inode_shape (inode_of t.inodes n))
 
 -- What the table says to stand in blocks stands there.
 pub record Stands (read : Blocks) (t : InodeTable) : Type 0 where

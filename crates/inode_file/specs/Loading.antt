@@ -1,5 +1,5 @@
 -- What loading the inodes answers.
-use Rattle.std.specs.Prelude.{◌≡◌, ◌<◌, ◌≤◌, ◌⊎◌, ◌+◌, ◌-◌, ◌^◌, ℕ, Bool, IsTrue, min, List, Result, Ok, Err}
+use Rattle.std.specs.Prelude.{◌≡◌, ◌<◌, ◌≤◌, ◌⊎◌, ◌+◌, ◌-◌, ◌^◌, ℕ, Bool, IsTrue, min, List, All, Result, Ok, Err}
 use Rattle.vol_numbers.specs.Layout.{Layout}
 use Rattle.disk_model.specs.Disk.{Given}
 use Rattle.block_format.specs.Index.{SpellsIndex, IsPointer}
@@ -8,12 +8,17 @@ use Rattle.block_format.specs.declared.inode.Inode.{Inode}
 use Rattle.block_tree.specs.Tree.{Blocks}
 use Rattle.block_tree.specs.declared.fault.TreeFault.{TreeFault}
 use Rattle.block_tree.specs.declared.fault.TreeFault.TheVariants.{Device, Damaged, OutOfMemory}
-use Rattle.inode_file.specs.Inodes.{inode_of}
+use Rattle.inode_file.specs.Inodes.{InodeTable, inode_of}
 
 -- an inode in shape, which points to no block or to one of the area
 pub record IsWhole (g : Layout) (inode : Inode) : Type 0 where
   pub shape : IsTrue (inode_shape inode)
   pub pointer : IsPointer g (pointer_of inode)
+
+-- All pointers of a table lead nowhere or into the area: those of the inode index and those of the inodes.
+pub record IsWithin (g : Layout) (t : InodeTable) : Type 0 where
+  pub pointers : All (IsPointer g) t.pointers
+  pub inodes : (n : ℕ) → IsWhole g (inode_of t.inodes n)
 
 -- Some inode of the block is outside the grammar.
 pub record IsNoInodeBlock (g : Layout) (bytes : List ℕ) : Type 0 where

@@ -6,3 +6,7 @@ mod inode_block;
 mod loading;
 mod notes;
 mod renewal;
+mod table;
+mod vacant;
+
+pub use table::InodeFile;

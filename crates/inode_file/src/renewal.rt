@@ -123,3 +123,27 @@ fn spelled_index(index: &Index) -> Block
     write_index(index, &mut block);
     block
 }
+
+/// How many inode blocks are to be written afresh.
+pub(crate) fn count_fresh(inodes: &[Inode], stored: &[Inode], pointers: &Index) -> u32
+    requires inodes { length inodes.now ≡ 65536 }
+    requires stored { length stored.now ≡ 65536 }
+    ensures is { result ≡ length (passing_from (is_written (record { inodes = inodes.now; stored = stored.now; pointers = pointers.now.ptrs; index = 0 })) 0 pointers.now.ptrs) }
+    ensures at_most { result ≤ 1024 }
+{
+    let mut count = 0;
+    for k in 0..1_024 {
+        if is_fresh(pointers.ptrs[k], block_of(stored, k), block_of(inodes, k)) {
+            count += 1;
+        }
+    }
+    count
+}
+
+/// Makes the second inodes the same as the first.
+pub(crate) fn copy_inodes(inodes: &[Inode], stored: &mut Vec<Inode>)
+    requires { length inodes.now ≡ length stored.old.items }
+    ensures { stored.new.items ≡ inodes.now }
+{
+    stored.copy_from_slice(inodes);
+}
