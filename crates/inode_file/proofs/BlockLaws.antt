@@ -13,7 +13,7 @@ use Rattle.block_format.specs.declared.inode.Inode.TheVariants.{Unused, File, Di
 use Rattle.block_format.proofs.InodeLaws.{inode_in-spelled}
 use Rattle.block_format.specs.Inode.{inode_part}
 use Rattle.block_tree.specs.Tree.{Blocks}
-use Rattle.inode_file.specs.Inodes.{inode_of, block_of, LeadsTo}
+use Rattle.inode_file.specs.Inodes.{inode_of, block_of, is_used, LeadsTo}
 use Rattle.inode_file.specs.Loading.{IsWhole}
 use Rattle.inode_file.specs.Rewriting.{is_same, are_same}
 
@@ -58,6 +58,16 @@ each_in_block P inodes k none each = each_taken P 64 (drop (64 * k) inodes) none
 
 pub length-block_of : (inodes : List Inode) (k : ℕ) → 64 * k + 64 ≤ length inodes → length (block_of inodes k) ≡ 64
 length-block_of inodes k le = length-take-le 64 (drop (64 * k) inodes) (omega (arith, length-drop (64 * k) inodes, le))
+
+-- a block has 64 inodes
+beyond : (n : ℕ) (xs : List Inode) (j : ℕ) → is_used (inode_of (take n xs) j) ≡ true → j < n
+beyond zero xs j e = cc
+beyond (suc n) [] j e = cc
+beyond (suc n) (x ∷ xs) zero e = omega arith
+beyond (suc n) (x ∷ xs) (suc j) e = let lt = beyond n xs j e in omega (arith, lt)
+
+pub beyond_block : (inodes : List Inode) (k j : ℕ) → is_used (inode_of (block_of inodes k) j) ≡ true → j < 64
+beyond_block inodes k j e = beyond 64 (drop (64 * k) inodes) j e
 
 pub leads_nowhere : (read : Blocks) (b : ℕ) (block : List Inode) → b ≡ 0 → ((j : ℕ) → inode_of block j ≡ Unused) → LeadsTo read b block
 leads_nowhere read zero block e none = λ j lt. none j

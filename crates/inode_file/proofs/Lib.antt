@@ -1,5 +1,7 @@
 mod BitLaws
 mod BlockLaws
+mod CountingLaws
 mod LoadLaws
 mod PassingLaws
 mod RenewalLaws
+mod TableLaws

@@ -1,8 +1,8 @@
 -- Pointers at the positions that pass a test.
-use Rattle.std.proofs.Common.{◌≡◌, ◌<◌, ℕ, zero, suc, ◌+◌, Bool, List, [], ◌∷◌, ◌++◌, length, get_or, set, take, drop, refl, ap, sym, ◌∙◌, arith, append_assoc, add-one}
+use Rattle.std.proofs.Common.{◌≡◌, ◌<◌, ◌≤◌, ℕ, zero, suc, ◌+◌, Bool, true, false, List, [], ◌∷◌, ◌++◌, length, get_or, set, take, drop, refl, ap, sym, ◌∙◌, arith, append_assoc, add-one}
 use Rattle.std.specs.Prelude.{slice_index}
 use Rattle.std.proofs.Math.Seq.{take-suc-set, drop-cons}
-use Rattle.std.proofs.lemmas.List.{append-nil, length-take-le}
+use Rattle.std.proofs.lemmas.List.{append-nil, drop_all, length-append, length-take-le}
 use Rattle.inode_file.specs.Rewriting.{passing_from, only_if}
 
 passing-append : (test : ℕ → Bool) (k : ℕ) (xs ys : List ℕ) → passing_from test k (xs ++ ys) ≡ passing_from test k xs ++ passing_from test (k + length xs) ys
@@ -26,3 +26,23 @@ pub passing_step : (test : ℕ → Bool) (xs : List ℕ) (k : ℕ) → k < lengt
 passing_step test xs k lt =
     ap (λ (zs : List ℕ). passing_from test k zs) (drop-cons xs k 0 lt)
     ∙ ap (λ (n : ℕ). only_if (test k) (slice_index xs k) ++ passing_from test (k + 1) (drop n xs)) (sym (add-one k))
+
+pub only_if-length : (test : Bool) (p q : ℕ) → length (only_if test p) ≡ length (only_if test q)
+only_if-length true p q = refl
+only_if-length false p q = refl
+
+-- a count of positions and those that are left
+pub count_step : (test : ℕ → Bool) (xs : List ℕ) (k count total : ℕ) → k < length xs → count + length (passing_from test k (drop k xs)) ≡ total
+    → count + length (only_if (test k) 0) + length (passing_from test (k + 1) (drop (k + 1) xs)) ≡ total
+count_step test xs k count total lt is =
+    let p = slice_index xs k in
+    omega (
+      arith,
+      is,
+      only_if-length (test k) 0 p,
+      ap length (passing_step test xs k lt),
+      length-append (only_if (test k) p) (passing_from test (k + 1) (drop (k + 1) xs)),
+    )
+
+pub counted_all : (test : ℕ → Bool) (xs : List ℕ) (k count total : ℕ) → length xs ≤ k → count + length (passing_from test k (drop k xs)) ≡ total → count ≡ total
+counted_all test xs k count total le is = omega (arith, is, ap (λ (ys : List ℕ). length (passing_from test k ys)) (drop_all k xs le))

@@ -19,7 +19,7 @@ use Rattle.inode_file.specs.Inodes.{InodeTable, inode_of, block_of, is_used, Lea
 use Rattle.inode_file.specs.Rewriting.{has_used, is_current, is_fresh, are_same, is_written, only_if, passing_from}
 use Rattle.inode_file.specs.Renewal.{Takes, IsRenewed, AreRenewed, IsIndexRenewed}
 use Rattle.inode_file.proofs.BlockLaws.{are_same-Decides, leads_there}
-use Rattle.inode_file.proofs.PassingLaws.{passing_set, passing_step}
+use Rattle.inode_file.proofs.PassingLaws.{passing_set, passing_step, only_if-length}
 
 first_true : (a b : Bool) → (a && b) ≡ true → a ≡ true
 first_true true b e = refl
@@ -137,10 +137,6 @@ renewed_start t free m many = record {
   some = λ j lt. absurd (omega (arith, lt));
   kept = λ j lt. absurd (omega (arith, lt));
 }
-
-only_if-length : (test : Bool) (p q : ℕ) → length (only_if test p) ≡ length (only_if test q)
-only_if-length true p q = refl
-only_if-length false p q = refl
 
 -- There is room for the blocks that are still to be written.
 pub room_less : (t : InodeTable) (k new : ℕ) (middle left : List ℕ) → k < length t.pointers → length (passing_from (is_written t) k (drop k t.pointers)) + 1 ≤ length middle

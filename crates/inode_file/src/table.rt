@@ -153,7 +153,7 @@ impl InodeFile {
         ensures inodes { OnOk result (self.new.inodes ≡ self.old.inodes) }
         ensures now { OnOk result (self.new.stored ≡ self.old.inodes) }
         ensures root { IfOk result (λ w. w.root ≡ record { height = 1; ptr = self.new.index }) }
-        ensures whole { IsTable self.new }
+        ensures whole { OnOk result (IsTable self.new) }
         ensures pointers { IfOk result (λ w. (b : ℕ) → times b (table_pointers self.old) + times b w.added ≡ times b (table_pointers self.new) + times b w.dropped) }
         // There are as many inode blocks as different positions of the numbers of nodes.
         ensures count { OnOk result (length (nonzero self.new.pointers) ≡ used_positions self.old.inodes) }
