@@ -73,13 +73,16 @@ first_below upper lower k sums first = record {
 
 pub first_in_word : (words : List ℕ) (k : ℕ) → IsFirstWord words k → slice_index words k < 2 ^ 64
     → (trailing_zeros w64 (slice_index words k) < 64) × IsFirstBit words (64 * k + trailing_zeros w64 (slice_index words k))
-first_in_word words k first fits = (low.0, record {
-  some = at_bit ∙ one_bit _ low.1;
-  before = λ m lt. ⊎_elim
-      (λ (earlier : m / 64 < k). no_bit_in words m (first.before (m / 64) earlier))
-      (λ (here : m / 64 ≡ k). no_bit _ (ap (λ (q : ℕ). bit_at (slice_index words q) (m % 64)) here ∙ low.2 (m % 64) (omega (arith, lt, here))))
-      (by_word m (omega (arith, lt, low.0)));
-})
+first_in_word words k first fits = (
+  low.0,
+  record {
+    some = at_bit ∙ one_bit _ low.1;
+    before = λ m lt. ⊎_elim
+        (λ (earlier : m / 64 < k). no_bit_in words m (first.before (m / 64) earlier))
+        (λ (here : m / 64 ≡ k). no_bit _ (ap (λ (q : ℕ). bit_at (slice_index words q) (m % 64)) here ∙ low.2 (m % 64) (omega (arith, lt, here))))
+        (by_word m (omega (arith, lt, low.0)));
+  },
+)
   where
     t : ℕ
     t = trailing_zeros w64 (slice_index words k)

@@ -78,7 +78,7 @@ takes_none test old new free m n not_so pages added dropped =
 -- the next free block is taken
 takes_one : (test : Bool) (old at : ℕ) (free left : List ℕ) (block : Block) (m : Noted) → test ≡ true → 0 < at → free ≡ at ∷ left
     → Takes (only_if test at) (old ∷ []) (at ∷ []) free left m
-      (record { pages = m.pages ++ record { at = at; block = block } ∷ []; added = m.added ++ at ∷ []; dropped = m.dropped ++ nonzero (old ∷ []) })
+    (record { pages = m.pages ++ record { at = at; block = block } ∷ []; added = m.added ++ at ∷ []; dropped = m.dropped ++ nonzero (old ∷ []) })
 takes_one test old at free left block m so some e =
     let page : Page = record { at = at; block = block } in
     let n : Noted = record { pages = m.pages ++ page ∷ []; added = m.added ++ at ∷ []; dropped = m.dropped ++ nonzero (old ∷ []) } in

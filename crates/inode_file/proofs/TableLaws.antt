@@ -1,13 +1,18 @@
 -- Tables of inodes.
-use Rattle.std.proofs.Common.{◌≡◌, ◌<◌, ℕ, IsTrue, Bool, List, length, refl, ap, sym, ◌∙◌, subst, arith, ⊎_elim}
-use Rattle.std.specs.Prelude.{slice_index, slice_set, ◌&&◌, not, nat_le}
+use Rattle.std.proofs.Common.{◌≡◌, ◌<◌, ℕ, IsTrue, Bool, List, [], ◌∷◌, ◌++◌, length, take, append_assoc, refl, ap, sym, ◌∙◌, subst, arith, ⊎_elim}
+use Rattle.std.specs.Prelude.{slice_index, slice_set, ◌&&◌, not, nat_le, bytes_eq}
 use Rattle.std.proofs.lemmas.Bool.{cases_eq}
-use Rattle.std.proofs.lemmas.List.{length-set, get_or-set_same, get_or-set_other}
+use Rattle.std.proofs.lemmas.List.{take_all, length-set, get_or-set_same, get_or-set_other}
 use Rattle.block_format.specs.Inode.{inode_shape}
 use Rattle.block_format.specs.declared.inode.Inode.{Inode}
 use Rattle.block_format.specs.declared.inode.Inode.TheVariants.{Unused}
 use Rattle.block_tree.specs.Tree.{Blocks, index_at}
 use Rattle.inode_file.specs.Inodes.{InodeTable, inode_of, block_of, is_used, IsTable, LeadsTo, Stands}
+use Rattle.block_tree.specs.Notes.{Noted, page_blocks}
+use Rattle.block_tree.proofs.NoteLaws.{refs-append}
+use Rattle.inode_file.specs.Rewriting.{is_written, only_if, passing_from}
+use Rattle.inode_file.specs.Renewal.{AreRenewed, IsIndexRenewed, IsPlanned, all_written}
+use Rattle.inode_file.proofs.CountingLaws.{blocks_counted}
 use Rattle.inode_file.specs.Bits.{has_bit, is_vacant, HasVacant, SetsBit}
 
 -- Blocks that lead from one table to the next.
@@ -46,3 +51,27 @@ pub vacant_set : (words new : List ℕ) (inodes : List Inode) (n : ℕ) (inode :
 vacant_set words new inodes n inode on lt is before sets = record {
   each = λ m below. each_set (λ i x. has_bit new i ≡ (nat_le 2 i && not (is_used x))) inodes n inode lt (sets.here ∙ is) m (λ ne. sets.others m ne ∙ before.each m below);
 }
+
+-- All blocks are renewed.
+pub planned : (t : InodeTable) (pointers : List ℕ) (index : ℕ) (free middle left : List ℕ) (m n o : Noted) → IsTable t
+    → AreRenewed (record { inodes = t.inodes; stored = t.stored; pointers = t.pointers; index = 0 }) 1024 pointers free middle m n
+    → IsIndexRenewed (not (bytes_eq t.pointers pointers)) t.index t.pointers pointers index middle left n o → IsPlanned t (all_written t pointers index) free left m o
+planned t pointers index free middle left m n o is blocks last =
+    let done : List ℕ = passing_from (is_written t) 0 pointers in
+    let one : List ℕ = only_if (not (bytes_eq t.pointers pointers)) index in
+    let all : passing_from (is_written t) 0 (take 1024 pointers) ≡ done = ap (λ (ps : List ℕ). passing_from (is_written t) 0 ps) (take_all 1024 pointers (omega (arith, blocks.many))) in
+    record {
+      table = record { inodes = is.inodes; stored = is.inodes; pointers = blocks.many; index = last.some; shape = is.shape };
+      stands = λ after stand. stands_after t pointers index after is.inodes (last.entries after stand) (blocks.leads after (last.takes.grows after stand));
+      takes = record {
+        taken = blocks.takes.taken ∙ (ap (λ (xs : List ℕ). xs ++ middle) all ∙ (ap (λ (xs : List ℕ). done ++ xs) last.takes.taken ∙ sym (append_assoc done one left)));
+        pages = last.takes.pages ∙ (ap (λ (xs : List ℕ). xs ++ one) (blocks.takes.pages ∙ ap (λ (xs : List ℕ). page_blocks m.pages ++ xs) all) ∙ append_assoc (page_blocks m.pages) done one);
+        added = last.takes.added ∙ (ap (λ (xs : List ℕ). xs ++ one) (blocks.takes.added ∙ ap (λ (xs : List ℕ). m.added ++ xs) all) ∙ append_assoc m.added done one);
+        settles = record { each = λ b. omega (arith, blocks.takes.settles.each b, last.takes.settles.each b, refs-append b (t.index ∷ []) t.pointers, refs-append b (index ∷ []) pointers) };
+        grows = λ read stand. blocks.takes.grows read (last.takes.grows read stand);
+      };
+      count = blocks_counted t.inodes pointers is.inodes blocks.many blocks.dropped blocks.some;
+      dropped = blocks.dropped;
+      kept = blocks.kept;
+      kept_index = last.kept;
+    }

@@ -57,7 +57,7 @@ written_blocks t = length (passing_from (is_written t) 0 t.pointers)
 
 -- the pointers that lead to the inode index and to the inode blocks
 abbrev pub table_pointers : InodeTable → List ℕ
-table_pointers t = t.index ∷ nonzero t.pointers
+table_pointers t = nonzero (t.index ∷ t.pointers)
 
 -- the blocks of the pages: the inode blocks that are written afresh, by position, and the inode index where it has other pointers
 abbrev pub written_in_order : InodeTable → InodeTable → List ℕ

@@ -13,6 +13,7 @@ ghost use Rattle.inode_file.specs.Inodes.{inode_of, is_used, IsTable, Stands};
 ghost use Rattle.inode_file.specs.Loading.{IsWithin, IsLoadDamage};
 ghost use Rattle.inode_file.specs.Rewriting.{has_nodes, is_unchanged, written_blocks, written_in_order, table_pointers};
 ghost use Rattle.inode_file.specs.Counting.{used_positions};
+ghost use Rattle.inode_file.specs.Renewal.{IsPlanned, all_written};
 
 use crate::bits::NumberSet;
 use crate::loading::{read_inodes, read_pointers};
@@ -36,6 +37,13 @@ pub struct InodeFile {
     pointers: Index,
     index: BlockNo,
     vacant: NumberSet,
+}
+
+/// Where the inode blocks and the inode index are to be.
+#[derive(Clone, Copy)]
+struct Plan {
+    pointers: Index,
+    index: BlockNo,
 }
 
 impl Model for InodeFile {
@@ -168,25 +176,30 @@ impl InodeFile {
     {
         let mut trial = free.copy()?;
         let mut notes = Notes::new(self.alloc);
-        let mut pointers = self.pointers;
-        renew_blocks(
-            &self.inodes,
-            &self.stored,
-            &mut pointers,
-            &mut trial,
-            &mut notes,
-        )?;
-        let index = renew_index(
-            self.index,
-            &self.pointers,
-            &pointers,
-            &mut trial,
-            &mut notes,
-        )?;
+        let plan = self.plan(&mut trial, &mut notes)?;
         *free = trial;
+        self.adopt(&plan);
+        Ok(notes.into_rewritten(plan.index))
+    }
+
+    /// Renews all blocks, and says where they are.
+    fn plan(&self, free: &mut FreeMap, notes: &mut Notes) -> Result<Plan, AllocError>
+        requires { written_blocks self.now + 1 ≤ length free.old }
+        ensures { IfOk result (λ plan. IsPlanned self.now (all_written self.now plan.pointers.ptrs plan.index) free.old free.new notes.old notes.new) }
+    {
+        let mut pointers = self.pointers;
+        renew_blocks(&self.inodes, &self.stored, &mut pointers, free, notes)?;
+        let index = renew_index(self.index, &self.pointers, &pointers, free, notes)?;
+        Ok(Plan { pointers, index })
+    }
+
+    /// Takes the plan for done.
+    fn adopt(&mut self, plan: &Plan)
+        requires { IsTable (all_written self.old plan.now.pointers.ptrs plan.now.index) }
+        ensures { self.new ≡ all_written self.old plan.now.pointers.ptrs plan.now.index }
+    {
         copy_inodes(&self.inodes, &mut self.stored);
-        self.pointers = pointers;
-        self.index = index;
-        Ok(notes.into_rewritten(index))
+        self.pointers = plan.pointers;
+        self.index = plan.index;
     }
 }

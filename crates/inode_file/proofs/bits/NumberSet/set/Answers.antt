@@ -28,8 +28,7 @@ module _ (c : goal.After-self-2-1) where
 
 pub invariant_of-self : goal.invariant_of-self
 invariant_of-self c =
-    let s = c.self.inside in
-    (
+    let s = c.self.inside in (
       omega (arith, length-set s.low.items (c.args.n / 64) c.with_bit.result),
       omega (arith, length-set s.middle (c.args.n / 64 / 64) c.with_bit-2.result),
       summary_set s.middle s.low.items (middle c) (low c) c.args.n c.args.on _ c.self.invariant.2 (low_set c) (low_has c) (middle_set c),
