@@ -19,10 +19,14 @@ is_used Unused = false
 is_used (File size height ptr) = true
 is_used (Directory width height ptr) = true
 
--- A pointer of the inode index leads to these 64 inodes: where there is no block, none of them is used, else the block spells each.
+-- An inode behind a pointer of the inode index: where there is no block, it is unused, else the block spells it at its position.
+abbrev pub SpellsInodeAt : Blocks → ℕ → ℕ → Inode → Type 0
+SpellsInodeAt read zero j inode = inode ≡ Unused
+SpellsInodeAt read (suc b) j inode = inode_at (inode_part j (read (suc b))) ≡ Some inode
+
+-- A pointer of the inode index leads to these 64 inodes.
 abbrev pub LeadsTo : Blocks → ℕ → List Inode → Type 0
-LeadsTo read zero block = (j : ℕ) → j < 64 → inode_of block j ≡ Unused
-LeadsTo read (suc b) block = (j : ℕ) → j < 64 → inode_at (inode_part j (read (suc b))) ≡ Some (inode_of block j)
+LeadsTo read ptr block = (j : ℕ) → j < 64 → SpellsInodeAt read ptr j (inode_of block j)
 
 -- The inode index and the blocks to which it points spell the inode of each number.
 pub record SpellsInodes (read : Blocks) (index : ℕ) (inodes : List Inode) : Type 0 where

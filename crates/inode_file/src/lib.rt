@@ -3,10 +3,12 @@
 
 mod bits;
 mod inode_block;
+mod laws;
 mod loading;
 mod notes;
 mod renewal;
 mod table;
 mod vacant;
 
+pub use laws::{number_spelled, one_table, table_stays};
 pub use table::InodeFile;
