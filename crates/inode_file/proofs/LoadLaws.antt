@@ -1,9 +1,11 @@
 -- Inodes that are read block by block.
-use Rattle.std.proofs.Common.{◌≡◌, ◌<◌, ◌≤◌, ◌⊎◌, ⊎_elim, ℕ, zero, suc, ◌+◌, ◌-◌, ◌*◌, Bool, List, [], ◌∷◌, ◌++◌, length, take, drop, refl, ap, sym, ◌∙◌, subst, arith}
-use Rattle.std.specs.Prelude.{Result, Ok, Err, slice_index}
+use Rattle.std.proofs.Common.{◌≡◌, ◌<◌, ◌≤◌, ◌⊎◌, ⊎_elim, ℕ, zero, suc, ◌+◌, ◌-◌, ◌*◌, Bool, true, List, [], ◌∷◌, ◌++◌, length, take, drop, refl, ap, sym, ◌∙◌, subst, arith}
+use Rattle.std.specs.Prelude.{Result, Ok, Err, slice_index, ◌||◌, nat_eq}
 use Rattle.std.specs.Result.{IsErrAnd}
 use Rattle.std.proofs.lemmas.Bool.{cases_eq}
 use Rattle.std.proofs.lemmas.List.{drop-append-le, drop_at, take-append-le, take_all, length-drop, length-append}
+use Rattle.std.proofs.lemmas.Bool.Decides.{nat_tests}
+use Rattle.place_words.specs.Different.{is_among}
 use Rattle.vol_numbers.specs.Layout.{Layout}
 use Rattle.disk_model.specs.Disk.{Given}
 use Rattle.block_format.specs.declared.inode.Inode.{Inode}
@@ -12,6 +14,7 @@ use Rattle.block_tree.specs.declared.fault.TreeFault.{TreeFault}
 use Rattle.block_tree.specs.declared.fault.TreeFault.TheVariants.{Device, Damaged, OutOfMemory}
 use Rattle.inode_file.specs.Inodes.{block_of, inode_of, LeadsTo}
 use Rattle.inode_file.specs.Loading.{HasDamage, IsLoadDamage}
+use Rattle.inode_file.proofs.CountingLaws.{or_second}
 
 -- a call that began earlier
 pub damage_earlier : (g : Layout) (tells : Bool) (contents : Blocks) (index : ℕ) (old middle new : Given) (fault : TreeFault) → old.count ≤ middle.count
@@ -32,6 +35,15 @@ pub each_more : (P : Inode → Type 0) (xs ys : List Inode) → ((n : ℕ) → P
 each_more P [] ys p q n = q n
 each_more P (x ∷ xs) ys p q zero = p 0
 each_more P (x ∷ xs) ys p q (suc n) = each_more P xs ys (λ m. p (suc m)) q n
+
+-- each pointer is among them
+pub among_at : (ns : List ℕ) (k : ℕ) → k < length ns → is_among ns (slice_index ns k) ≡ true
+among_at [] k lt = absurd (omega (arith, lt))
+among_at (n ∷ ns) zero lt = ap (λ (t : Bool). t || is_among ns n) (itself n)
+  where
+    itself : (m : ℕ) → nat_eq m m ≡ true
+    itself m = grind (arith, nat_tests)
+among_at (n ∷ ns) (suc k) lt = or_second (nat_eq n (slice_index ns k)) (is_among ns (slice_index ns k)) (among_at ns k (omega (arith, lt)))
 
 -- the last 64 inodes
 pub last_block : (inodes block : List Inode) (k : ℕ) → length inodes ≡ 64 * k → length block ≡ 64 → block_of (inodes ++ block) k ≡ block

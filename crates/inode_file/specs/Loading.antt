@@ -1,11 +1,12 @@
 -- What loading the inodes answers.
-use Rattle.std.specs.Prelude.{◌≡◌, ◌<◌, ◌≤◌, ◌⊎◌, ◌+◌, ◌-◌, ◌^◌, ℕ, Bool, IsTrue, min, List, All, Result, Ok, Err}
+use Rattle.std.specs.Prelude.{◌≡◌, ◌<◌, ◌≤◌, ◌⊎◌, ◌+◌, ◌-◌, ◌^◌, ℕ, Bool, true, IsTrue, min, List, All, Result, Ok, Err}
 use Rattle.vol_numbers.specs.Layout.{Layout}
 use Rattle.disk_model.specs.Disk.{Given}
 use Rattle.block_format.specs.Index.{SpellsIndex, IsPointer}
 use Rattle.block_format.specs.Inode.{SpellsInode, inode_part, inode_shape, pointer_of}
 use Rattle.block_format.specs.declared.inode.Inode.{Inode}
-use Rattle.block_tree.specs.Tree.{Blocks}
+use Rattle.place_words.specs.Different.{is_among}
+use Rattle.block_tree.specs.Tree.{Blocks, index_at}
 use Rattle.block_tree.specs.declared.fault.TreeFault.{TreeFault}
 use Rattle.block_tree.specs.declared.fault.TreeFault.TheVariants.{Device, Damaged, OutOfMemory}
 use Rattle.inode_file.specs.Inodes.{InodeTable, inode_of}
@@ -26,15 +27,16 @@ pub record IsNoInodeBlock (g : Layout) (bytes : List ℕ) : Type 0 where
   pub below : position < 64
   pub outside : (inode : Inode) → SpellsInode g inode (inode_part position bytes) → ⊥
 
--- the bytes of a block are those of no inode index, where it is to be that, and else of no inode block
-abbrev pub IsOutside : Layout → ℕ → ℕ → List ℕ → Type 0
-IsOutside g index b bytes = ((b ≡ index) × ((ptrs : List ℕ) → SpellsIndex g ptrs bytes → ⊥)) ⊎ IsNoInodeBlock g bytes
+-- the block is the inode index, and its bytes are those of none
+abbrev pub IsNoIndexBlock : Layout → ℕ → ℕ → List ℕ → Type 0
+IsNoIndexBlock g index b bytes = (b ≡ index) × ((ptrs : List ℕ) → SpellsIndex g ptrs bytes → ⊥)
 
--- The block that was read last in the call is this one, and is outside the grammar. Where the disk tells its contents, it is what they have there.
+-- The block that was read last in the call is this one. It is outside the grammar: it is the inode index, or one to which that points.
+-- Where the disk tells its contents, they have the bytes that were read.
 pub record IsDamage (g : Layout) (tells : Bool) (contents : Blocks) (index : ℕ) (old new : Given) (b : ℕ) : Type 0 where
   pub number : new.at ≡ b
   pub rose : min (old.count + 1) (2 ^ 64 - 1) ≤ new.count
-  pub outside : IsOutside g index b new.block.bytes
+  pub outside : IsNoIndexBlock g index b new.block.bytes ⊎ ((IsTrue tells → is_among (index_at contents index) b ≡ true) × IsNoInodeBlock g new.block.bytes)
   pub stands : IsTrue tells → contents b ≡ new.block.bytes
 
 abbrev pub HasDamage : Layout → Bool → Blocks → ℕ → Given → Given → TreeFault → Type 0

@@ -4,7 +4,8 @@ use Rattle.vol_numbers.specs.declared.block.Block.{Block}
 use Rattle.vol_numbers.specs.Geometry.{layout_of}
 use Rattle.block_format.specs.Inode.{inode_at, inode_part}
 use Rattle.block_format.specs.declared.inode.Inode.{Inode}
-use Rattle.block_tree.specs.Tree.{blocks_in}
+use Rattle.place_words.specs.Different.{is_among}
+use Rattle.block_tree.specs.Tree.{blocks_in, index_at}
 use Rattle.block_tree.proofs.EntryLaws.{block_read}
 use Rattle.inode_file.specs.Inodes.{inode_of}
 use Rattle.inode_file.specs.Loading.{IsNoInodeBlock, IsWhole}
@@ -27,12 +28,12 @@ returns-in-Some-clause-leads g c tells =
     leads_there (blocks_in contents) c.args.at c.in-Some.inodes c.if-at-eq0.false (λ j lt. ap (λ (bs : List ℕ). inode_at (inode_part j bs)) bytes ∙ c.in-Some.ensures.spelled j lt)
 
 pub returns-in-None-clause-damaged : goal.returns-in-None-clause-damaged
-returns-in-None-clause-damaged g c index =
+returns-in-None-clause-damaged g c index among =
     let given = c.in_default.ensures.given in
     record {
       number = given.number;
       rose = omega (arith, given.counted);
-      outside = inr (subst (λ (b : Block). IsNoInodeBlock (layout_of c.args.g.now) b.bytes) (sym given.bytes) c.in-None.ensures.none);
+      outside = inr (λ tells. ap (λ (s : State). is_among (index_at (blocks_in s.contents) index) c.args.at) (c.in_default.ensures.same tells) ∙ among tells, subst (λ (b : Block). IsNoInodeBlock (layout_of c.args.g.now) b.bytes) (sym given.bytes) c.in-None.ensures.none);
       stands = λ tells.
           ap (λ (s : State). blocks_in s.contents c.args.at) (c.in_default.ensures.same tells)
           ∙ (block_read (g.D.Disk.state c.args.disk.now).contents c.args.at c.read_block.new.into (c.in_default.ensures.read tells) ∙ ap (λ (b : Block). b.bytes) (sym given.bytes));

@@ -4,15 +4,20 @@ use Rattle.vol_numbers.specs.Geometry.{layout_of}
 use Rattle.disk_model.specs.Disk.{State}
 use Rattle.disk_model.proofs.Moments.{adds_read}
 use Rattle.block_format.specs.declared.inode.Inode.{Inode}
-use Rattle.block_tree.specs.Tree.{blocks_in}
+use Rattle.place_words.specs.Different.{is_among}
+use Rattle.block_tree.specs.Tree.{blocks_in, index_at}
 use Rattle.inode_file.specs.Inodes.{inode_of, block_of, LeadsTo}
 use Rattle.inode_file.specs.Loading.{IsWhole}
-use Rattle.inode_file.proofs.LoadLaws.{damage_passed, leads_more, each_more}
+use Rattle.inode_file.proofs.LoadLaws.{damage_passed, among_at, leads_more, each_more}
 use Rattle.inode_file.proofs.loading.read_inodes.Goals as goal
 
 pub returns-in_err-block-clause-damaged : goal.returns-in_err-block-clause-damaged
-returns-in_err-block-clause-damaged g c index =
-    damage_passed _ _ _ _ _ _ _ c.from_residual-in_err-block.result c.in_err-block.field-0.0 c.from_residual-in_err-block.ensures.1 c.loop-k.invariant.given (c.in_err-block.ensures.damaged index)
+returns-in_err-block-clause-damaged g c index entries =
+    let k = c.loop-k.k in
+    damage_passed _ _ _ _ _ _ _ c.from_residual-in_err-block.result c.in_err-block.field-0.0 c.from_residual-in_err-block.ensures.1 c.loop-k.invariant.given
+    (c.in_err-block.ensures.damaged index
+    (λ tells. ap (λ (s : State). is_among (index_at (blocks_in s.contents) index) (slice_index c.args.pointers.now.ptrs k)) (c.loop-k.invariant.same tells)
+    ∙ (ap (λ (ps : List ℕ). is_among ps (slice_index c.args.pointers.now.ptrs k)) (entries tells) ∙ among_at c.args.pointers.now.ptrs k (omega arith))))
 
 pub loop-k-preserved : goal.loop-k-preserved
 loop-k-preserved g c =
@@ -31,6 +36,6 @@ loop-k-preserved g c =
       same = λ tells. c.in_ok-block.ensures.same tells ∙ inv.same tells;
       moments = λ tells. adds_read (inv.moments tells) (inv.same tells) (c.in_ok-block.ensures.moments tells);
       fixed = c.in_ok-block.ensures.fixed ∙ inv.fixed;
-      given = omega (arith, c.in_ok-block.ensures.damaged 0, inv.given);
+      given = omega (arith, c.in_ok-block.ensures.counted, inv.given);
       faults = c.in_ok-block.ensures.cause ∙ inv.faults;
     }
