@@ -1,9 +1,9 @@
 -- Inodes in blocks.
-use Rattle.std.proofs.Common.{◌≡◌, ◌<◌, ◌≤◌, ◌+◌, ◌*◌, ℕ, zero, suc, ◌==◌, IsTrue, Bool, true, false, List, [], ◌∷◌, length, take, drop, refl, ap, ap₂, sym, ◌∙◌, arith, inl, replicate, cond}
-use Rattle.std.specs.Prelude.{◌&&◌, bytes_eq, Some, None, Option}
+use Rattle.std.proofs.Common.{◌≡◌, ◌<◌, ◌≤◌, ◌+◌, ◌*◌, ℕ, zero, suc, IsTrue, Bool, true, List, [], ◌∷◌, length, take, drop, refl, ap, ap₂, sym, ◌∙◌, arith, inl, replicate, cond}
+use Rattle.std.specs.Prelude.{◌&&◌, bytes_eq, Some, None}
 use Rattle.std.specs.Bool.{Decides}
 use Rattle.std.specs.Cmp.Lexicographic.{pointwise}
-use Rattle.std.proofs.lemmas.Bool.Decides.{nat_tests, Decides-eqb}
+use Rattle.std.proofs.lemmas.Bool.Decides.{nat_tests}
 use Rattle.std.proofs.lemmas.Slice.Eq.{bytes_eq-Decides, slice_eq-Decides}
 use Rattle.std.proofs.lemmas.List.{length-take-le, length-drop}
 use Rattle.vol_numbers.specs.Layout.{Layout}

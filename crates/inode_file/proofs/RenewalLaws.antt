@@ -1,6 +1,6 @@
 -- What becomes of inode blocks and of the inode index.
 use Rattle.std.proofs.Common.{◌≡◌, ◌<◌, ◌≤◌, ℕ, zero, suc, ◌+◌, ◌==◌, Bool, true, false, cond, List, [], ◌∷◌, ◌++◌, length, set, take, drop, refl, ap, sym, ◌∙◌, subst, arith, ⊎_elim, append_assoc}
-use Rattle.std.specs.Prelude.{slice_index, All, not, ◌&&◌, ◌||◌, Some, bytes_eq}
+use Rattle.std.specs.Prelude.{slice_index, All, not, ◌&&◌, ◌||◌, Some}
 use Rattle.std.proofs.lemmas.Bool.{cases_eq}
 use Rattle.std.proofs.lemmas.Bool.Decides.{nat_tests}
 use Rattle.std.proofs.lemmas.List.{append-nil, length-append, length-set, get_or-set_same, get_or-set_other, map_push}
@@ -11,8 +11,8 @@ use Rattle.block_format.specs.Words.{words}
 use Rattle.block_format.specs.declared.inode.Inode.{Inode}
 use Rattle.block_format.specs.declared.inode.Inode.TheVariants.{Unused, File, Directory}
 use Rattle.place_words.specs.Different.{times}
-use Rattle.block_tree.specs.Tree.{Blocks, nonzero}
-use Rattle.block_tree.specs.Notes.{Noted, Stand, Settles, page_blocks}
+use Rattle.block_tree.specs.Tree.{nonzero}
+use Rattle.block_tree.specs.Notes.{Noted, page_blocks}
 use Rattle.block_tree.proofs.EntryLaws.{index_there}
 use Rattle.block_tree.proofs.NoteLaws.{times-append, refs-set, stand_front, stand_last}
 use Rattle.inode_file.specs.Inodes.{InodeTable, inode_of, block_of, is_used, LeadsTo}

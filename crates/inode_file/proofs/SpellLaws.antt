@@ -1,5 +1,5 @@
 -- What blocks spell.
-use Rattle.std.proofs.Common.{◌≡◌, ◌<◌, ℕ, zero, suc, ◌+◌, ◌*◌, ◌/◌, ◌%◌, ◌==◌, Bool, false, cond, List, [], ◌∷◌, length, refl, ap, sym, ◌∙◌, subst, arith}
+use Rattle.std.proofs.Common.{◌≡◌, ◌<◌, ℕ, zero, suc, ◌+◌, ◌*◌, ◌/◌, ◌%◌, ◌==◌, Bool, false, cond, List, [], ◌∷◌, refl, ap, sym, ◌∙◌, subst, arith}
 use Rattle.std.specs.Prelude.{slice_index, not, Some, take}
 use Rattle.std.specs.List.{AllByRecursion}
 use Rattle.std.proofs.lemmas.Bool.Decides.{nat_tests}
@@ -9,8 +9,7 @@ use Rattle.block_format.specs.Inode.{inode_at, inode_part}
 use Rattle.block_format.specs.declared.inode.Inode.{Inode}
 use Rattle.block_format.specs.declared.inode.Inode.TheVariants.{Unused}
 use Rattle.block_tree.specs.Tree.{Blocks, index_at, nonzero}
-use Rattle.inode_file.specs.Inodes.{InodeTable, inode_of, block_of, SpellsInodeAt, LeadsTo, SpellsInodes, Stands}
-use Rattle.inode_file.specs.Rewriting.{table_pointers}
+use Rattle.inode_file.specs.Inodes.{inode_of, block_of, SpellsInodeAt}
 use Rattle.inode_file.specs.Laws.{NumberSpelled, OneTable, TableStays}
 use Rattle.inode_file.proofs.CountingLaws.{block_entry}
 

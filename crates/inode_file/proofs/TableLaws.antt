@@ -1,5 +1,5 @@
 -- Tables of inodes.
-use Rattle.std.proofs.Common.{◌≡◌, ◌<◌, ℕ, IsTrue, Bool, List, [], ◌∷◌, ◌++◌, length, take, append_assoc, refl, ap, sym, ◌∙◌, subst, arith, ⊎_elim}
+use Rattle.std.proofs.Common.{◌≡◌, ◌<◌, ℕ, IsTrue, Bool, List, [], ◌∷◌, ◌++◌, length, take, append_assoc, ap, sym, ◌∙◌, subst, arith, ⊎_elim}
 use Rattle.std.specs.Prelude.{slice_index, slice_set, ◌&&◌, not, nat_le, bytes_eq}
 use Rattle.std.proofs.lemmas.Bool.{cases_eq}
 use Rattle.std.proofs.lemmas.List.{take_all, length-set, get_or-set_same, get_or-set_other}
@@ -13,7 +13,7 @@ use Rattle.block_tree.proofs.NoteLaws.{refs-append}
 use Rattle.inode_file.specs.Rewriting.{is_written, only_if, passing_from}
 use Rattle.inode_file.specs.Renewal.{AreRenewed, IsIndexRenewed, IsPlanned, all_written}
 use Rattle.inode_file.proofs.CountingLaws.{blocks_counted}
-use Rattle.inode_file.specs.Bits.{has_bit, is_vacant, HasVacant, SetsBit}
+use Rattle.inode_file.specs.Bits.{has_bit, HasVacant, SetsBit}
 
 -- Blocks that lead from one table to the next.
 pub stands_after : (t : InodeTable) (pointers : List ℕ) (index : ℕ) (after : Blocks) → length t.inodes ≡ 65536 → (index_at after t.index ≡ t.pointers → index_at after index ≡ pointers)

@@ -1,5 +1,5 @@
 -- Sets of numbers as bits of words, with words that say which words have a bit: in words of private functions alone.
-use Rattle.std.specs.Prelude.{◌≡◌, ◌≢◌, ◌<◌, ◌≤◌, ℕ, ◌/◌, ◌%◌, ◌==◌, ◌&&◌, not, nat_le, Bool, true, false, List, slice_index}
+use Rattle.std.specs.Prelude.{◌≡◌, ◌≢◌, ◌<◌, ℕ, ◌/◌, ◌%◌, ◌==◌, ◌&&◌, not, nat_le, Bool, true, false, List, slice_index}
 use Rattle.std.specs.Int.{bit_at}
 use Rattle.block_format.specs.declared.inode.Inode.{Inode}
 use Rattle.inode_file.specs.Inodes.{inode_of, is_used}

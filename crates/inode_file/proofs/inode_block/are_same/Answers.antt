@@ -1,4 +1,4 @@
-use Rattle.std.proofs.Common.{◌≡◌, ◌∙◌, refl, sym, Bool}
+use Rattle.std.proofs.Common.{◌≡◌, ◌∙◌, refl, sym}
 use Rattle.block_format.specs.contracts.inode.InodePartialEq.TheImpl.{eq-value}
 use Rattle.block_format.specs.declared.inode.Inode.{Inode}
 use Rattle.block_format.specs.declared.inode.Inode.TheVariants.{Unused, File, Directory}

@@ -1,9 +1,7 @@
 use Rattle.std.proofs.Common.{◌≡◌, ◌∙◌, ℕ, ap, arith, ⊎_elim, sym}
 use Rattle.std.specs.Prelude.{Some}
 use Rattle.std.proofs.lemmas.Bool.{cases_eq}
-use Rattle.std.proofs.lemmas.List.{get_or_default}
 use Rattle.block_format.specs.Inode.{inode_at, inode_part}
-use Rattle.block_format.specs.declared.inode.Inode.TheVariants.{Unused}
 use Rattle.inode_file.specs.Inodes.{inode_of}
 use Rattle.inode_file.proofs.BlockLaws.{at_spelled}
 use Rattle.inode_file.proofs.inode_block.spelled.Goals as goal

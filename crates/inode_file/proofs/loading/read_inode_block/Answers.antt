@@ -1,4 +1,4 @@
-use Rattle.std.proofs.Common.{◌≡◌, ◌∙◌, ap, sym, subst, inr, arith, ℕ, List}
+use Rattle.std.proofs.Common.{◌∙◌, ap, sym, subst, inr, arith, ℕ, List}
 use Rattle.disk_model.specs.Disk.{State}
 use Rattle.vol_numbers.specs.declared.block.Block.{Block}
 use Rattle.vol_numbers.specs.Geometry.{layout_of}

@@ -1,4 +1,4 @@
-use Rattle.std.proofs.Common.{◌≡◌, ◌∙◌, true, false, sym}
+use Rattle.std.proofs.Common.{◌∙◌, sym}
 use Rattle.inode_file.proofs.RenewalLaws.{renewed_none, renewed_kept, renewed_fresh}
 use Rattle.inode_file.proofs.renewal.renew_block.Goals as goal
 

@@ -1,4 +1,4 @@
-use Rattle.std.proofs.Common.{◌≡◌, ◌∙◌, ◌++◌, IsTrue, List, ℕ, ap, sym, subst, refl, arith, length}
+use Rattle.std.proofs.Common.{◌∙◌, ◌++◌, IsTrue, List, ℕ, ap, sym, subst, refl, arith, length}
 use Rattle.std.specs.Prelude.{slice_index}
 use Rattle.block_format.specs.Inode.{inode_shape}
 use Rattle.block_format.specs.declared.inode.Inode.{Inode}

@@ -1,4 +1,4 @@
-use Rattle.std.proofs.Common.{◌≡◌, ◌<◌, ◌≤◌, ℕ, false}
+use Rattle.std.proofs.Common.{◌≡◌, ◌<◌, ℕ}
 use Rattle.inode_file.specs.Bits.{has_bit, is_vacant}
 use Rattle.inode_file.proofs.vacant.vacant_numbers.Given as goal
 

@@ -1,4 +1,4 @@
-use Rattle.std.proofs.Common.{◌≡◌, ◌∙◌, ◌/◌, replicate, ap, sym, subst, refl, List, ℕ, [], length, arith}
+use Rattle.std.proofs.Common.{◌≡◌, ◌∙◌, ◌/◌, replicate, ap, sym, subst, refl, List, ℕ, arith}
 use Rattle.std.specs.Prelude.{slice_index}
 use Rattle.inode_file.specs.Bits.{Summarizes}
 use Rattle.inode_file.proofs.BitLaws.{zeros_summarize, no_bit_in, zero_in}

@@ -1,4 +1,4 @@
-use Rattle.std.proofs.Common.{◌≡◌, sym, subst, arith}
+use Rattle.std.proofs.Common.{arith}
 use Rattle.inode_file.specs.Inodes.{InodeTable}
 use Rattle.inode_file.proofs.TableLaws.{table_set, vacant_set}
 use Rattle.inode_file.proofs.table.InodeFile.set.Goals as goal
