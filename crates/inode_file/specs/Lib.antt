@@ -1,0 +1,7 @@
+pub mod Bits
+pub mod Counting
+pub mod Inodes
+pub mod Laws
+pub mod Loading
+pub mod Renewal
+pub mod Rewriting
