@@ -1,0 +1,132 @@
+-- Laws of what an image stands for.
+use Rattle.std.specs.Prelude.{◌≡◌, ◌<◌, ◌≤◌, ℕ, ◌+◌, ◌*◌, ◌^◌, List, [], ◌∷◌, ◌++◌, map, get_or, Contains, None, false, ◌-◌, true}
+use Rattle.std.specs.List.{flat_map}
+use Rattle.std.specs.FinMap.{find}
+use Rattle.vol_numbers.specs.Layout.{Layout, count_blocks, log_start}
+use Rattle.block_format.specs.Homes.{home_bit}
+use Rattle.vol_numbers.specs.declared.block.Block.{Block}
+use Rattle.disk_model.specs.Disk.{State, IsImage}
+use Rattle.root_switch.specs.Current.{root_of_image, HasRoot, FitsImage}
+use Rattle.block_format.specs.declared.inode.Inode.{Inode}
+use Rattle.block_tree.specs.Tree.{Blocks, index_at, nonzero}
+use Rattle.tree_model.specs.Order.{IsOrdered}
+use Rattle.tree_model.specs.Path.{Path}
+use Rattle.tree_model.specs.Shape.{IsTree}
+use Rattle.tree_model.specs.Tree.{Tree, node_at}
+use Rattle.tree_model.specs.declared.command.Command.{Command}
+use Rattle.space_account.specs.Charge.{need, pending}
+use Rattle.tree_model.specs.Step.{step}
+use Rattle.tree_model.specs.declared.reply.Reply.TheVariants as reply
+use Rattle.volume_model.specs.Machine.{Machine, Rules, Stored}
+use Rattle.volume_model.specs.Point.{after_point}
+use Rattle.volume_model.specs.Done.{mounted}
+use Rattle.volume_model.specs.Places.{Places, Spot, spot_cmp, InOrder}
+use Rattle.volume_model.specs.Space.{free_blocks}
+use Rattle.image_model.specs.Findings.{free_in, body_finding, is_in_area}
+use Rattle.image_model.specs.Fresh.{IsFresh, fresh_inode, fresh_stored}
+use Rattle.image_model.specs.Holds.{HoldsTree}
+use Rattle.image_model.specs.Met.{index, metas, NoFaults, pointers_to}
+use Rattle.image_model.specs.Plan.{IsPlanned, taken_in}
+use Rattle.place_words.specs.Different.{times}
+use Rattle.image_model.specs.Planned.{IsSpelled, CountsStand, used_from, node_trees}
+use Rattle.image_model.specs.Walk.{walk, nodes_at}
+use Rattle.image_model.specs.Live.{IsLive, KeepsLive, OpensNoLive}
+use Rattle.image_model.specs.Next.{HasNext, and_command}
+use Rattle.image_model.specs.Point.{HasPoint, IsAssembled}
+use Rattle.image_model.specs.Seen.{Seen, seen, counts_from}
+use Rattle.image_model.specs.Nodes.{has_tail, is_bad_directory}
+use Rattle.image_model.specs.Sound.{IsNamed, IsSound}
+use Rattle.image_model.specs.Stands.{Stands, Logs, Accepts, layout_in, node_along, spot_of, used_in}
+
+abbrev pub OneMeaning : Type 0
+OneMeaning = (image : List Block) (s t : Stored) → Stands image s → Stands image t → s ≡ t
+
+abbrev pub KeptMeaning : Type 0
+KeptMeaning = (old new : List Block) (s : Stored) → KeepsLive old new → Stands old s → Stands new s
+
+abbrev pub ImagesStand : Type 0
+ImagesStand = (state : State) (image : List Block) (s : Stored) → OpensNoLive state → IsImage state image → Stands state.contents s → Stands image s
+
+abbrev pub NextStands : Type 0
+NextStands = (old new : List Block) (command : Command) (s : Stored) → HasNext old new command → Stands old s
+    → Accepts (free_blocks (layout_in old) s.tree s.places) s.tree 0 (s.records ++ command ∷ []) → Stands new (and_command s command)
+
+-- Records are accepted with one more exactly where they are accepted, the tree after them does that command, and what is pending and its need
+-- are together at most free.
+pub record AcceptedMore : Type 0 where
+  pub more : (free : ℕ) (s : Stored) (command : Command) → Accepts free s.tree 0 s.records → (step (mounted s).tree command).0 ≡ reply.Done → pending s.records + need command ≤ free
+      → Accepts free s.tree 0 (s.records ++ command ∷ [])
+  pub last : (free : ℕ) (s : Stored) (command : Command) → Accepts free s.tree 0 (s.records ++ command ∷ [])
+      → ((step (mounted s).tree command).0 ≡ reply.Done) × (pending s.records + need command ≤ free)
+  pub front : (free : ℕ) (s : Stored) (command : Command) → Accepts free s.tree 0 (s.records ++ command ∷ []) → Accepts free s.tree 0 s.records
+
+-- The blocks of the area with count 0 are as many as the formula over the tree and its places says.
+abbrev pub FreeIsCounted : Type 0
+FreeIsCounted = (image : List Block) (s : Stored) → Stands image s → free_in (layout_in image) (seen image).kept ≡ free_blocks (layout_in image) s.tree s.places
+
+-- An image that is assembled stands for what it is assembled for.
+abbrev pub AssembledStands : Type 0
+AssembledStands = (image : List Block) (s : Stored) → IsAssembled image s → Stands image s
+
+-- After a point an image stands for the tree and the places that the point made.
+abbrev pub PointStands : Type 0
+PointStands = (old new : List Block) (before s : Stored) → Stands old before → HasPoint old new s → Stands new s
+
+-- Where each used number has one path, a tree is seen.
+abbrev pub TreeExists : Type 0
+TreeExists = (s : Seen) → IsNamed s → (tree : Tree) × IsOrdered tree × ((path : Path) → node_at tree path ≡ node_along s path)
+
+-- An image that stands for a tree holds it node by node.
+abbrev pub TreeIsHeld : Type 0
+TreeIsHeld = (image : List Block) (s : Stored) → Stands image s → HoldsTree (seen image) s.tree
+
+-- A tree that is held node by node is seen, and its numbers have one path each.
+abbrev pub HeldIsSeen : Type 0
+HeldIsSeen = (s : Seen) (tree : Tree) → IsTree tree → HoldsTree s tree → ((path : Path) → node_at tree path ≡ node_along s path) × IsNamed s
+
+-- The walk over a volume that is spelled meets the inode index, the inode blocks, and below each node its index blocks and its places.
+abbrev pub WalkIsSpelled : Type 0
+WalkIsSpelled = (read : Blocks) (at : ℕ) (inode : ℕ → Inode) → IsSpelled read at inode
+    → (nodes_at read at ≡ used_from inode 0 65536) × (walk read at ≡ index at ∷ (map index (nonzero (index_at read at)) ++ flat_map (node_trees read) (used_from inode 0 65536)))
+
+-- The kept counts are those that stand in the homes.
+abbrev pub CountsAreSpelled : Type 0
+CountsAreSpelled = (read : Blocks) (homes : List ℕ) (counts : ℕ → ℕ) (blocks : ℕ) → ((b : ℕ) → counts b < 2 ^ 32) → CountsStand read homes counts blocks
+    → (b : ℕ) → b < 1024 * blocks → get_or (counts_from read homes 0 blocks) b 0 ≡ counts b
+
+-- What is planned number by number is met without a fault, and leads to metadata of before or to what is taken for it.
+abbrev pub PlanLeads : Type 0
+PlanLeads = (old new : List Block) (before : Stored) (inode : ℕ → Inode) → Stands old before → (plan : IsPlanned old new inode)
+    → NoFaults (seen new).met × ((b : ℕ) → times b (metas (seen new).met) ≤ times b (metas (seen old).met) + times b (taken_in plan.for_inodes plan.for_node))
+
+-- What a format leaves stands for the root directory alone.
+abbrev pub FreshStands : Type 0
+FreshStands = (g : Layout) (image : List Block) → IsFresh g image → Stands image (fresh_stored g)
+
+-- What a point writes isn't live: blocks of the area with count 0, and the homes that the root doesn't name. (No root slot is among the live blocks.)
+pub record WritesNoLive (image : List Block) : Type 0 where
+  pub free : (b : ℕ) → is_in_area (layout_in image) b ≡ true → get_or (seen image).kept b 0 ≡ 0 → IsLive image b → ⊥
+  pub home : (i : ℕ) → i < count_blocks (layout_in image) → IsLive image (3 + 2 * i + (1 - home_bit (root_of_image image).homes i)) → ⊥
+  pub log : (k : ℕ) → used_in image ≤ k → k < (layout_in image).log_blocks + 32 → IsLive image (log_start (layout_in image) + k) → ⊥
+
+abbrev pub NotLive : Type 0
+NotLive = (image : List Block) → FitsImage image → WritesNoLive image
+
+-- The places that are seen are in order.
+abbrev pub PlacesInOrder : Type 0
+PlacesInOrder = (image : List Block) → NoFaults (seen image).met → InOrder (map spot_of (seen image).contents)
+
+-- The places after a point are in order. So what is seen has them where it has the block of each.
+pub record PointPlaces : Type 0 where
+  pub in_order : (r : Rules) (m : Machine) (fresh : List ℕ) → InOrder m.kept → InOrder (after_point r m fresh).stored_places
+  pub seen : (image : List Block) (r : Rules) (m : Machine) (fresh : List ℕ) → NoFaults (seen image).met → InOrder m.kept
+      → ((spot : Spot) → find spot_cmp spot (map spot_of (seen image).contents) ≡ find spot_cmp spot (after_point r m fresh).stored_places)
+      → map spot_of (seen image).contents ≡ (after_point r m fresh).stored_places
+
+-- What a format leaves has all that a point owes, over itself: so there are images that have it.
+abbrev pub FreshHasPoint : Type 0
+FreshHasPoint = (g : Layout) (image : List Block) → IsFresh g image → HasPoint image image (fresh_stored g) × IsPlanned image image fresh_inode
+
+-- Places in order that have the same blocks are the same.
+abbrev pub SamePlaces : Type 0
+SamePlaces = (p q : Places) → InOrder p → InOrder q → ((spot : Spot) → find spot_cmp spot p ≡ find spot_cmp spot q) → p ≡ q

@@ -1,0 +1,3 @@
+pub mod Late
+pub mod LogRows
+pub mod FreshRow

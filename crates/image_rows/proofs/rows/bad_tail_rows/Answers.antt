@@ -1,0 +1,22 @@
+use Rattle.std.proofs.Common.{refl}
+use Rattle.block_format.specs.Words.{words}
+use Rattle.block_format.specs.Inode.{inode_in}
+use Rattle.block_format.specs.Root.{root_in}
+use Rattle.block_format.specs.Slot.{slot_in}
+use Rattle.image_model.specs.Findings.{body_finding}
+use Rattle.image_model.specs.Nodes.{tree_finding}
+use Rattle.image_model.specs.Roots.{root_finding}
+use Rattle.image_model.specs.Seen.{seen}
+use Rattle.image_model.specs.Slots.{slots_from}
+use Rattle.image_model.specs.Walk.{walk, inodes_from}
+use Rattle.image_model.specs.declared.finding.Finding.TheVariants.{BadTail}
+use Rattle.image_model.proofs.Phases.{in_tails}
+use Rattle.image_rows.specs.Nodes.{byte_behind, least_file}
+use Rattle.image_rows.proofs.rows.bad_tail_rows.Goals as goal
+
+pub returns : goal.returns
+unfolding words inode_in root_in slot_in body_finding tree_finding root_finding seen slots_from walk inodes_from
+returns c = record {
+  found_in_byte_behind = in_tails byte_behind (BadTail 2) refl refl refl refl;
+  found_in_least_file = in_tails least_file (BadTail 2) refl refl refl refl;
+}
