@@ -12,7 +12,7 @@ use Rattle.tree_model.specs.declared.report.Report.{Report}
 use Rattle.tree_model.specs.Shape.{IsTree}
 use Rattle.tree_model.specs.Step.{step, is_change, refusal_of}
 use Rattle.tree_model.specs.Tree.{Tree}
-use Rattle.tree_model.proofs.RefusalLaws.{refusal_tells}
+use Rattle.tree_model.proofs.RefusalLaws.{refusal_tells, changes_are_done}
 use Rattle.space_account.specs.Charge.{need}
 use Rattle.volume_model.specs.Done.{done}
 use Rattle.volume_model.specs.Legal.{IsLegal, Replies, MayReport, changes, is_full, is_due, is_done, is_excuse, is_outside, reply_to, when_answered, next}
@@ -26,7 +26,7 @@ use Rattle.volume_model.proofs.CacheLists.{stays_a_cache_list, eight_at_most}
 use Rattle.volume_model.proofs.WholeLaws.{point_whole}
 use Rattle.state_laws.specs.Accepted.{IsAccepted}
 use Rattle.state_laws.specs.Files.{HasPlace, zero_block}
-use Rattle.state_laws.specs.Laws.{AlwaysCoherent, StoredIsMountable, PlacesAreInFiles, KeptStays, HolesRead, BlocksHaveBytes, CacheListsAre, FingerprintsAreTrue, StoresItself, DirectoriesAreWide}
+use Rattle.state_laws.specs.Laws.{AcceptedIsDone, AlwaysCoherent, StoredIsMountable, PlacesAreInFiles, KeptStays, HolesRead, BlocksHaveBytes, CacheListsAre, FingerprintsAreTrue, StoresItself, DirectoriesAreWide}
 use Rattle.state_laws.specs.States.{IsCoherent, IsWide, IsReached, mount, answer, answer_for_now}
 use Rattle.state_laws.proofs.Commands.{done_coherent, mounted_coherent}
 use Rattle.state_laws.proofs.PointBytes.{after_held, same_after}
@@ -99,6 +99,12 @@ kept_reply false refused given e = e
 not_refused : (tree : Tree) (c : Command) (o : Option Refusal) → (step tree c).0 ≡ reply.Done → refusal_of tree c ≡ o → o ≡ None
 not_refused tree c None ok e = refl
 not_refused tree c (Some x) ok e = let refused : (step tree c).0 ≡ reply.Refused x = (refusal_tells tree c x).0 e in cc
+
+pub accepted_is_done : AcceptedIsDone
+accepted_is_done = record {
+  done = λ tree command is. changes_are_done tree command is.change is.accepted;
+  accepted = λ tree command change ok. record { change = change; accepted = not_refused tree command (refusal_of tree command) ok refl };
+}
 
 accepted : (r : Rules) (m : Machine) (c : Command) (given : Answer) → is_change c ≡ true → is_done given.reply ≡ true → Replies r m c given → IsAccepted (when_answered r m given.report).tree c
 accepted r m c given change ok replies = by replies

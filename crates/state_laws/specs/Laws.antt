@@ -1,10 +1,11 @@
 -- What holds of every state that is reached.
-use Rattle.std.specs.Prelude.{◌<◌, ℕ, []}
+use Rattle.std.specs.Prelude.{◌≡◌, ◌<◌, ℕ, true, []}
 use Rattle.vol_numbers.specs.Layout.{Layout}
 use Rattle.tree_model.specs.declared.report.Answer.{Answer}
 use Rattle.tree_model.specs.declared.command.Command.{Command}
 use Rattle.tree_model.specs.Shape.{IsTree}
-use Rattle.tree_model.specs.Step.{step}
+use Rattle.tree_model.specs.declared.reply.Reply.TheVariants as reply
+use Rattle.tree_model.specs.Step.{step, is_change}
 use Rattle.tree_model.specs.Touched.{touched}
 use Rattle.tree_model.specs.Tree.{Tree, new_tree}
 use Rattle.volume_model.specs.CacheLaws.{IsCacheList, HasFewKin}
@@ -16,6 +17,11 @@ use Rattle.volume_model.specs.Short.{AnswerForNow, IsLegalForNow, next_for_now}
 use Rattle.state_laws.specs.Accepted.{IsAccepted}
 use Rattle.state_laws.specs.Files.{HasSameBytes, PlacesFollow}
 use Rattle.state_laws.specs.States.{IsMountable, IsInFiles, KeptIsUnchanged, HolesAreZeros, HasTrueFingerprints, IsWhatItStores, IsWide, IsCoherent, IsReached}
+
+-- A change is accepted exactly where it is answered as done.
+pub record AcceptedIsDone : Type 0 where
+  pub done : (tree : Tree) (command : Command) → IsAccepted tree command → (step tree command).0 ≡ reply.Done
+  pub accepted : (tree : Tree) (command : Command) → is_change command ≡ true → (step tree command).0 ≡ reply.Done → IsAccepted tree command
 
 -- A change that is accepted leaves zeros where it cuts, touches places of files, and changes no other place.
 abbrev pub ChangesFollow : Type 0

@@ -1,5 +1,10 @@
 //! Laws of the states that are reached from a mounted volume, each on a function whose contract it is.
-ghost use Rattle.state_laws.specs.Laws.{AlwaysCoherent, BlocksHaveBytes, CacheListsAre, ChangesFollow, DirectoriesAreWide, FingerprintsAreTrue, FreshIsMountable, HolesRead, KeptStays, PlacesAreInFiles, StoredIsMountable, StoresItself};
+ghost use Rattle.state_laws.specs.Laws.{AcceptedIsDone, AlwaysCoherent, BlocksHaveBytes, CacheListsAre, ChangesFollow, DirectoriesAreWide, FingerprintsAreTrue, FreshIsMountable, HolesRead, KeptStays, PlacesAreInFiles, StoredIsMountable, StoresItself};
+
+/// A change is accepted exactly where the tree answers it as done.
+pub fn accepted_is_done()
+    ensures { AcceptedIsDone }
+{}
 
 /// What an accepted change cuts off reads as zeros, what it touches is a place of a file, and no other place changes.
 pub fn changes_follow()

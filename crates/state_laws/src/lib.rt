@@ -4,7 +4,7 @@
 mod laws;
 
 pub use laws::{
-    always_coherent, blocks_have_bytes, cache_lists_are, changes_follow, directories_are_wide,
-    fingerprints_are_true, fresh_is_mountable, holes_read, kept_stays, places_are_in_files,
-    stored_is_mountable, stores_itself,
+    accepted_is_done, always_coherent, blocks_have_bytes, cache_lists_are, changes_follow,
+    directories_are_wide, fingerprints_are_true, fresh_is_mountable, holes_read, kept_stays,
+    places_are_in_files, stored_is_mountable, stores_itself,
 };

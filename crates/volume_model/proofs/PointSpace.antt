@@ -128,7 +128,7 @@ after_has r m fresh positive whole long n k =
 
 -- ---- metadata depends on which places there are
 
-has_place : (placed : Places) (n k : ℕ) → is_among (places_of placed n) k ≡ has placed n k
+pub has_place : (placed : Places) (n k : ℕ) → is_among (places_of placed n) k ≡ has placed n k
 has_place [] n k = refl
 has_place (e ∷ es) n k = by (nat_eq e.0.0 n) (has_place es n k)
   where
