@@ -68,7 +68,7 @@ full_places read blocks height ptr below full = rising_full 0 blocks _ (pairs_ri
 
 -- ---- what is known of each node by its number
 
-below_at : (read : Blocks) (nodes : List (ℕ × Inode)) → AllMet read nodes → (n : ℕ) → AllBelow (blocks_in_node (inode_of nodes n)) (pairs_of_node read (inode_of nodes n))
+pub below_at : (read : Blocks) (nodes : List (ℕ × Inode)) → AllMet read nodes → (n : ℕ) → AllBelow (blocks_in_node (inode_of nodes n)) (pairs_of_node read (inode_of nodes n))
 below_at read [] all n = tt
 below_at read (node ∷ nodes) all n = by (node.0 == n) (below_at read nodes all.1 n)
   where
