@@ -27,14 +27,14 @@ use Rattle.image_model.proofs.SpaceLaws.{below_at}
 take_whole : (xs : List ℕ) (n : ℕ) → length xs ≡ n → take n xs ≡ xs
 take_whole xs n is = ap (take n) (sym (append-nil xs)) ∙ take_at xs [] n is
 
-drop_more : (n m : ℕ) (xs : List ℕ) → drop m (drop n xs) ≡ drop (n + m) xs
-drop_more zero m xs = let e : zero + m ≡ m = omega arith in ap (λ (k : ℕ). drop k xs) (sym e)
-drop_more (suc n) m [] = drop_none m ∙ sym (drop_none (suc n + m))
+pub drop_twice : (n m : ℕ) (xs : List ℕ) → drop m (drop n xs) ≡ drop (n + m) xs
+drop_twice zero m xs = let e : zero + m ≡ m = omega arith in ap (λ (k : ℕ). drop k xs) (sym e)
+drop_twice (suc n) m [] = drop_none m ∙ sym (drop_none (suc n + m))
   where
     drop_none : (k : ℕ) → drop {A = ℕ} k [] ≡ []
     drop_none zero = refl
     drop_none (suc k) = refl
-drop_more (suc n) m (x ∷ xs) = let e : suc n + m ≡ suc (n + m) = omega arith in drop_more n m xs ∙ ap (λ (k : ℕ). drop k (x ∷ xs)) (sym e)
+drop_twice (suc n) m (x ∷ xs) = let e : suc n + m ≡ suc (n + m) = omega arith in drop_twice n m xs ∙ ap (λ (k : ℕ). drop k (x ∷ xs)) (sym e)
 
 none_left : (xs : List ℕ) → length xs ≤ 0 → xs ≡ []
 none_left [] le = refl
@@ -61,7 +61,7 @@ joined_is bytes place zero le =
 joined_is bytes place (suc k) le = by (nat_le (length (drop (4096 * place) bytes)) 4096) refl (joined_is bytes (place + 1) k (omega (arith, le, shorter)))
   where
     next : drop (4096 * (place + 1)) bytes ≡ drop 4096 (drop (4096 * place) bytes)
-    next = let e : 4096 * (place + 1) ≡ 4096 * place + 4096 = omega arith in ap (λ (n : ℕ). drop n bytes) e ∙ sym (drop_more (4096 * place) 4096 bytes)
+    next = let e : 4096 * (place + 1) ≡ 4096 * place + 4096 = omega arith in ap (λ (n : ℕ). drop n bytes) e ∙ sym (drop_twice (4096 * place) 4096 bytes)
 
     shorter : length (drop (4096 * (place + 1)) bytes) ≡ length (drop (4096 * place) bytes) - 4096
     shorter = omega (arith, length-drop (4096 * (place + 1)) bytes, length-drop (4096 * place) bytes)

@@ -188,11 +188,11 @@ directory_pairs read Unused = []
 directory_pairs read (File size height ptr) = []
 directory_pairs read (Directory width height ptr) = pairs_below read height ptr
 
-no_pages : (read : Blocks) (bs : List ℕ) → all_held (page_held read) (map index bs) ≡ []
+pub no_pages : (read : Blocks) (bs : List ℕ) → all_held (page_held read) (map index bs) ≡ []
 no_pages read [] = refl
 no_pages read (b ∷ bs) = no_pages read bs
 
-file_pages : (read : Blocks) (n : ℕ) (pairs : List (ℕ × ℕ)) → all_held (page_held read) (map (λ (e : ℕ × ℕ). content n e.0 e.1) pairs) ≡ []
+pub file_pages : (read : Blocks) (n : ℕ) (pairs : List (ℕ × ℕ)) → all_held (page_held read) (map (λ (e : ℕ × ℕ). content n e.0 e.1) pairs) ≡ []
 file_pages read n [] = refl
 file_pages read n (e ∷ pairs) = file_pages read n pairs
 

@@ -55,7 +55,7 @@ file_length held n size = omega (arith, length-take size (bytes_from held n 0 (b
 
 -- ---- a directory's places are all that it has
 
-under : (blocks : ℕ) (pairs : List (ℕ × ℕ)) → AllBelow blocks pairs → AllUnder (0 + blocks) (map (λ (e : ℕ × ℕ). e.0) pairs)
+pub under : (blocks : ℕ) (pairs : List (ℕ × ℕ)) → AllBelow blocks pairs → AllUnder (0 + blocks) (map (λ (e : ℕ × ℕ). e.0) pairs)
 under blocks [] below = tt
 under blocks (e ∷ pairs) below = (let is = below.0 in grind (arith, nat_tests), under blocks pairs below.1)
 

@@ -28,9 +28,11 @@ use Rattle.image_model.specs.Holds.{HoldsTree}
 use Rattle.image_model.specs.Met.{index, metas, NoFaults, pointers_to}
 use Rattle.block_format.specs.declared.inode.Inode.TheVariants as inode
 use Rattle.tree_model.specs.declared.node.Content.TheVariants as content
-use Rattle.image_model.specs.Nodes.{has_tail}
-use Rattle.image_model.specs.Slots.{inode_of}
-use Rattle.image_model.specs.Standing.{some_block, FileStands}
+use Rattle.image_model.specs.Nodes.{has_tail, is_bad_directory}
+use Rattle.image_model.specs.Slots.{inode_of, number_in, slots_of}
+use Rattle.block_format.specs.declared.slot.Slot.{Slot}
+use Rattle.dir_slots.specs.Slots.{number_in as numbers_in}
+use Rattle.image_model.specs.Standing.{some_block, FileStands, DirectoryStands}
 use Rattle.image_model.specs.Plan.{IsPlanned, taken_in}
 use Rattle.place_words.specs.Different.{times}
 use Rattle.image_model.specs.Planned.{IsSpelled, CountsStand, used_from, node_trees}
@@ -127,6 +129,12 @@ FileIsSeen = (image : List Block) (n : ℕ) (bytes : List ℕ) (height ptr : ℕ
 abbrev pub PlacesAreSeen : Type 0
 PlacesAreSeen = (image : List Block) (n size height ptr place : ℕ) → NoFaults (seen image).met → inode_of (seen image).nodes n ≡ inode.File size height ptr
     → find spot_cmp (n, place) (map spot_of (seen image).contents) ≡ some_block (block_below (blocks_in image) height ptr place)
+
+-- A directory that stands in the blocks below its inode is sound, and its names have the numbers that its slots say.
+abbrev pub DirectoryIsSeen : Type 0
+DirectoryIsSeen = (image : List Block) (n : ℕ) (slots : List Slot) (height ptr : ℕ) → NoFaults (seen image).met → inode_of (seen image).nodes n ≡ inode.Directory (length slots) height ptr
+    → DirectoryStands (blocks_in image) slots height ptr
+    → (is_bad_directory (seen image) (n, inode.Directory (length slots) height ptr) ≡ false) × ((name : List ℕ) → number_in (slots_of (seen image) n) name ≡ numbers_in slots name)
 
 -- The places that are seen are in order.
 abbrev pub PlacesInOrder : Type 0
