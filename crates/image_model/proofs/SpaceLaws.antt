@@ -50,7 +50,7 @@ bytes_length held n place (suc k) =
     let here = take 4096 (held_at held n place ++ replicate 4096 0) in
     omega (arith, length-append here (bytes_from held n (place + 1) k), held_length (held_at held n place), bytes_length held n (place + 1) k)
 
-file_length : (held : List Held) (n size : ℕ) → length (take size (bytes_from held n 0 (blocks_of size))) ≡ size
+pub file_length : (held : List Held) (n size : ℕ) → length (take size (bytes_from held n 0 (blocks_of size))) ≡ size
 file_length held n size = omega (arith, length-take size (bytes_from held n 0 (blocks_of size)), bytes_length held n 0 (blocks_of size))
 
 -- ---- a directory's places are all that it has

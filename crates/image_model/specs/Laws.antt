@@ -83,6 +83,14 @@ PointStands = (old new : List Block) (before s : Stored) → Stands old before �
 abbrev pub TreeExists : Type 0
 TreeExists = (s : Seen) → IsNamed s → (tree : Tree) × IsOrdered tree × ((path : Path) → node_at tree path ≡ node_along s path)
 
+-- What an image stands for is a tree in all that is asked of one: fronts of paths are directories, and numbers, widths and sizes have their limits.
+abbrev pub StandingTree : Type 0
+StandingTree = (image : List Block) (s : Stored) → Stands image s → IsTree s.tree
+
+-- The inodes of a volume that is spelled are those that are seen, and no fault is met.
+abbrev pub InodesAreSeen : Type 0
+InodesAreSeen = (image : List Block) (of : ℕ → Inode) → IsSpelled (blocks_in image) (root_of_image image).inode_index of → NoFaults (seen image).met × ((n : ℕ) → n < 65536 → inode_of (seen image).nodes n ≡ of n)
+
 -- An image that stands for a tree holds it node by node.
 abbrev pub TreeIsHeld : Type 0
 TreeIsHeld = (image : List Block) (s : Stored) → Stands image s → HoldsTree (seen image) s.tree
