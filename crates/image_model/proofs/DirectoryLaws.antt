@@ -1,10 +1,9 @@
 -- A directory that stands in its blocks is what is seen of it.
-use Rattle.std.proofs.Common.{◌≡◌, ℕ, zero, suc, ◌+◌, ◌-◌, ◌*◌, ◌/◌, ◌<◌, ◌≤◌, Bool, true, false, not, cond, List, [], ◌∷◌, ◌++◌, length, take, drop, replicate, map, Some, None, refl, sym, ap, subst, ◌∙◌, arith, append_assoc}
-use Rattle.std.specs.Prelude.{◌≢◌, ◌==◌, ◌&&◌, ◌||◌, nat_eq, nat_le, nat_lt, bytes_eq, Option, count_by, slice_index_or, slice_range, All}
-use Rattle.std.specs.List.{list_all, list_any, flat_map, AllByRecursion}
+use Rattle.std.proofs.Common.{◌≡◌, ℕ, zero, suc, ◌+◌, ◌-◌, ◌*◌, ◌<◌, ◌≤◌, Bool, true, false, not, cond, List, [], ◌∷◌, ◌++◌, length, take, drop, replicate, map, Some, refl, sym, ap, subst, ◌∙◌, arith, append_assoc}
+use Rattle.std.specs.Prelude.{◌≢◌, ◌==◌, ◌&&◌, ◌||◌, nat_eq, nat_le, bytes_eq, count_by, slice_index_or, All}
+use Rattle.std.specs.List.{list_all, list_any, flat_map}
 use Rattle.std.proofs.lemmas.Bool.{eqb-true, eq-eqb}
 use Rattle.std.proofs.lemmas.Bool.Decides.{nat_tests}
-use Rattle.std.proofs.lemmas.Grind.{flat_map-append}
 use Rattle.std.proofs.lemmas.List.{drop_at, map-append, append-nil}
 use Rattle.std.proofs.lemmas.List.Elements.{All-head, All-tail}
 use Rattle.std.proofs.lemmas.List.Concat.{flat_map-cons}
@@ -13,7 +12,7 @@ use Rattle.vol_numbers.specs.Name.{IsName}
 use Rattle.vol_numbers.specs.declared.block.Block.{Block}
 use Rattle.root_switch.specs.Current.{root_of_image}
 use Rattle.block_format.specs.Inode.{blocks_of}
-use Rattle.block_format.specs.Slot.{SlotFits, slot_in, slot_bytes, slot_part}
+use Rattle.block_format.specs.Slot.{SlotFits, slot_in, slot_bytes}
 use Rattle.block_format.specs.declared.inode.Inode.{Inode}
 use Rattle.block_format.specs.declared.inode.Inode.TheVariants.{Unused, File, Directory}
 use Rattle.block_format.specs.declared.slot.Slot.{Slot}
@@ -32,10 +31,10 @@ use Rattle.image_model.specs.Laws.{DirectoryIsSeen}
 use Rattle.image_model.specs.Met.{Met, index, page, content, NoFaults}
 use Rattle.image_model.specs.Nodes.{is_bad_directory, is_slot_spelled, is_empty, has_twin, is_entry_name, AllBelow, blocks_in_node}
 use Rattle.image_model.specs.Planned.{node_trees}
-use Rattle.image_model.specs.Seen.{Held, Seen, seen, all_held, page_held}
+use Rattle.image_model.specs.Seen.{Held, seen, all_held, page_held}
 use Rattle.image_model.specs.Slots.{slot_pieces, slots_from, slots_of, inode_of, is_name, number_in}
 use Rattle.image_model.specs.Standing.{DirectoryStands}
-use Rattle.image_model.specs.Walk.{walk, nodes_at}
+use Rattle.image_model.specs.Walk.{nodes_at}
 use Rattle.image_model.proofs.FileLaws.{drop_twice}
 use Rattle.image_model.proofs.NodePlaces.{numbers, numbers_distinct, held_append, no_pages, file_pages, directory_pairs, is_of, pages_at}
 use Rattle.image_model.proofs.NodeWalk.{pairs_of_node, walk_good}

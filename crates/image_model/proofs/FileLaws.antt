@@ -1,5 +1,5 @@
 -- A file that stands in its blocks is what is seen of it.
-use Rattle.std.proofs.Common.{◌≡◌, ℕ, zero, suc, ◌+◌, ◌-◌, ◌*◌, ◌/◌, ◌<◌, ◌≤◌, Bool, true, false, not, cond, List, [], ◌∷◌, ◌++◌, length, take, drop, replicate, map, Some, None, refl, sym, ap, subst, ◌∙◌, arith, length-append, length-drop, append_assoc}
+use Rattle.std.proofs.Common.{◌≡◌, ℕ, zero, suc, ◌+◌, ◌-◌, ◌*◌, ◌<◌, ◌≤◌, Bool, true, false, not, cond, List, [], ◌∷◌, ◌++◌, length, take, drop, replicate, Some, None, refl, sym, ap, subst, ◌∙◌, arith, length-append, length-drop, append_assoc}
 use Rattle.std.specs.Prelude.{◌==◌, nat_le, nat_lt, option_map}
 use Rattle.std.specs.List.{list_all}
 use Rattle.std.proofs.lemmas.Bool.Decides.{nat_tests}
@@ -9,7 +9,7 @@ use Rattle.root_switch.specs.Current.{root_of_image}
 use Rattle.block_format.specs.Inode.{blocks_of}
 use Rattle.block_format.specs.declared.inode.Inode.{Inode}
 use Rattle.block_format.specs.declared.inode.Inode.TheVariants.{File}
-use Rattle.block_tree.specs.Tree.{Blocks, block_in, block_below, pairs_below, blocks_in}
+use Rattle.block_tree.specs.Tree.{block_in, block_below, pairs_below, blocks_in}
 use Rattle.block_tree.proofs.Pairs.{pairs_are}
 use Rattle.tree_model.specs.declared.node.Content.TheVariants as tree
 use Rattle.image_model.specs.Laws.{FileIsSeen, PlacesAreSeen}
@@ -17,11 +17,11 @@ use Rattle.image_model.specs.Met.{NoFaults}
 use Rattle.image_model.specs.Nodes.{has_tail, AllBelow, blocks_in_node}
 use Rattle.image_model.specs.Seen.{Held, seen}
 use Rattle.image_model.specs.Slots.{held_at, inode_of}
-use Rattle.image_model.specs.Standing.{some_block, file_block, PlaceStands, FileStands}
-use Rattle.image_model.specs.Stands.{bytes_from, node_of}
+use Rattle.image_model.specs.Standing.{some_block, file_block, FileStands}
+use Rattle.image_model.specs.Stands.{bytes_from}
 use Rattle.image_model.specs.Walk.{nodes_at}
 use Rattle.image_model.proofs.NodeWalk.{pairs_of_node, walk_good}
-use Rattle.image_model.proofs.NumberHeld.{found_at, bytes_held, held_from, held_here, file_found, find_from}
+use Rattle.image_model.proofs.NumberHeld.{bytes_held, held_from, held_here, file_found, find_from}
 use Rattle.image_model.proofs.SpaceLaws.{below_at}
 
 take_whole : (xs : List ℕ) (n : ℕ) → length xs ≡ n → take n xs ≡ xs

@@ -1,6 +1,6 @@
 -- Where what is seen is sound, no number is lost.
-use Rattle.std.proofs.Common.{◌≡◌, ℕ, zero, suc, ◌+◌, ◌<◌, ◌≤◌, Bool, true, false, not, cond, List, [], ◌∷◌, ◌++◌, length, map, Some, None, refl, sym, ap, subst, ◌∙◌, arith}
-use Rattle.std.specs.Prelude.{◌==◌, ◌&&◌, ◌||◌, nat_eq, nat_lt, Option, option_and_then, unwrap_or, Contains, count_by, reverse}
+use Rattle.std.proofs.Common.{◌≡◌, ℕ, zero, suc, ◌+◌, ◌≤◌, Bool, true, false, not, cond, List, [], ◌∷◌, ◌++◌, length, Some, None, refl, sym, ap, subst, ◌∙◌, arith}
+use Rattle.std.specs.Prelude.{◌==◌, ◌&&◌, ◌||◌, nat_eq, nat_lt, Option, option_and_then, unwrap_or, count_by, reverse}
 use Rattle.std.specs.List.{list_any, flat_map, filter_map, AllByRecursion}
 use Rattle.std.proofs.lemmas.Bool.{eqb-true}
 use Rattle.std.proofs.lemmas.Bool.Decides.{nat_tests}
@@ -24,7 +24,7 @@ use Rattle.image_model.specs.Seen.{Seen, seen_from}
 use Rattle.image_model.specs.Slots.{slots_of, inode_of, number_in, number_along}
 use Rattle.image_model.specs.Sound.{IsSound}
 use Rattle.image_model.specs.Walk.{is_used, nodes_at, blocks_inodes}
-use Rattle.image_model.proofs.Naming.{names_are, times_mapped, leads_right, found_name, right, no_slots, directory_fine, met}
+use Rattle.image_model.proofs.Naming.{names_are, times_mapped, leads_right, found_name, right, no_slots, directory_fine}
 use Rattle.image_model.proofs.NodePlaces.{numbers, numbers_distinct, nodes_used, used_among, directory_pairs}
 use Rattle.image_model.proofs.Paths.{found_times, same_name, name_itself}
 

@@ -1,6 +1,6 @@
 -- What is seen of one number: its blocks by their places.
-use Rattle.std.proofs.Common.{◌≡◌, ℕ, zero, suc, ◌+◌, ◌<◌, ◌≤◌, Bool, true, false, cond, List, [], ◌∷◌, ◌++◌, map, Some, None, refl, sym, ap, subst, ◌∙◌, arith}
-use Rattle.std.specs.Prelude.{◌==◌, ◌&&◌, ◌||◌, nat_eq, nat_lt, Option, option_map}
+use Rattle.std.proofs.Common.{◌≡◌, ℕ, zero, suc, ◌+◌, Bool, true, false, cond, List, [], ◌∷◌, ◌++◌, map, Some, None, refl, sym, ap, subst, ◌∙◌, arith}
+use Rattle.std.specs.Prelude.{◌==◌, ◌&&◌, ◌||◌, nat_eq, Option, option_map}
 use Rattle.std.specs.List.{flat_map, AllByRecursion}
 use Rattle.std.specs.FinMap.{find}
 use Rattle.std.specs.Ordering.{eq_by_cmp, is_eq}
@@ -17,15 +17,15 @@ use Rattle.block_format.specs.declared.inode.Inode.TheVariants.{Unused, File, Di
 use Rattle.block_tree.specs.Tree.{Blocks, index_at, nonzero, block_in, block_below, pairs_from, leaves_pairs, pairs_below, indexes_below, blocks_in}
 use Rattle.block_tree.proofs.Pairs.{pairs_are}
 use Rattle.place_words.specs.Different.{is_among, Distinct}
-use Rattle.volume_model.specs.Places.{Places, Spot, spot_cmp}
+use Rattle.volume_model.specs.Places.{Spot, spot_cmp}
 use Rattle.image_model.specs.Met.{Met, index, page, content, NoFaults}
 use Rattle.image_model.specs.Standing.{some_block}
 use Rattle.image_model.specs.Planned.{node_trees}
 use Rattle.image_model.specs.Seen.{Held, seen, all_held, content_held}
 use Rattle.image_model.specs.Slots.{held_at, inode_of}
 use Rattle.image_model.specs.Stands.{spot_of}
-use Rattle.image_model.specs.Walk.{walk, nodes_at}
-use Rattle.image_model.proofs.NodePlaces.{numbers, numbers_distinct, held_append, no_contents, page_contents, nil_either}
+use Rattle.image_model.specs.Walk.{nodes_at}
+use Rattle.image_model.proofs.NodePlaces.{numbers, numbers_distinct, held_append, no_contents, page_contents}
 use Rattle.image_model.proofs.NodeWalk.{walk_good}
 use Rattle.image_model.proofs.PlaceOrder.{spot_total, spot_tie}
 

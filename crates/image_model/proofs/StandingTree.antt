@@ -1,11 +1,10 @@
 -- What an image stands for is a tree, in all that is asked of a tree.
-use Rattle.std.proofs.Common.{◌≡◌, ℕ, zero, suc, ◌+◌, ◌<◌, ◌≤◌, Bool, true, false, not, cond, List, [], ◌∷◌, ◌++◌, length, drop, take, map, Some, None, refl, sym, ap, subst, ◌∙◌, arith}
+use Rattle.std.proofs.Common.{◌≡◌, ℕ, zero, suc, ◌≤◌, Bool, true, false, not, cond, List, [], ◌∷◌, ◌++◌, length, drop, take, map, Some, None, refl, sym, ap, subst, ◌∙◌, arith}
 use Rattle.std.specs.Prelude.{◌==◌, ◌&&◌, ◌||◌, nat_eq, nat_le, ◌*◌, Option, option_and_then, Contains, count_by}
-use Rattle.std.specs.List.{AllByRecursion, cons_option, list_any, list_all, filter_map, flat_map}
+use Rattle.std.specs.List.{AllByRecursion, cons_option, list_any, list_all, filter_map}
 use Rattle.std.proofs.lemmas.Bool.{eqb-true}
 use Rattle.std.proofs.lemmas.Bool.Decides.{nat_tests}
 use Rattle.vol_numbers.specs.Layout.{Layout, count_blocks}
-use Rattle.vol_numbers.specs.declared.block.Block.{Block}
 use Rattle.root_switch.specs.Current.{root_of_image}
 use Rattle.block_format.specs.Inode.{blocks_of, inode_shape, node_fits}
 use Rattle.block_format.specs.declared.inode.Inode.{Inode}
@@ -13,7 +12,7 @@ use Rattle.block_format.specs.declared.inode.Inode.TheVariants.{Unused, File, Di
 use Rattle.block_format.specs.declared.slot.Slot.{Slot}
 use Rattle.block_format.specs.declared.slot.Slot.TheVariants as slots
 use Rattle.block_tree.specs.Tree.{Blocks, blocks_in}
-use Rattle.place_words.specs.Different.{is_among, different, Distinct}
+use Rattle.place_words.specs.Different.{is_among, Distinct}
 use Rattle.place_words.proofs.Counting.{distinct_count}
 use Rattle.place_words.proofs.Totals.{different_part}
 use Rattle.tree_model.specs.Order.{IsOrdered}
@@ -26,7 +25,7 @@ use Rattle.tree_model.specs.declared.node.Content.TheVariants as tree
 use Rattle.tree_model.specs.declared.reply.Entry.{Entry}
 use Rattle.tree_model.proofs.Fronts.{strip_is}
 use Rattle.image_model.specs.Laws.{StandingTree}
-use Rattle.image_model.specs.Nodes.{is_bad_directory, is_empty, is_slot_spelled, has_twin, number_named}
+use Rattle.image_model.specs.Nodes.{is_empty, is_slot_spelled, has_twin, number_named}
 use Rattle.image_model.specs.Seen.{Seen, seen, seen_from}
 use Rattle.image_model.specs.Slots.{slot_pieces, slots_of, inode_of, number_in, number_along}
 use Rattle.image_model.specs.Sound.{IsSound}

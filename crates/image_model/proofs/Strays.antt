@@ -13,7 +13,7 @@ use Rattle.block_tree.specs.Tree.{Blocks, index_at}
 use Rattle.image_model.specs.declared.finding.Finding.{Finding}
 use Rattle.image_model.specs.Findings.{◌then◌, met_finding, reached_with, walk_finding}
 use Rattle.image_model.specs.Met.{Met, index, page, content, past, empty, not_inode, stray}
-use Rattle.image_model.specs.Walk.{met_at, places_met, empty_met, empty_at, leaf_met, tops_met, leaves_met, tree_met, node_met, is_used, is_directory, is_good, is_stray, is_pointer_wrong, bad_met, inodes_from, blocks_inodes, block_met, blocks_met, nodes_of, root_met, entries_met, nodes_at, walk}
+use Rattle.image_model.specs.Walk.{places_met, empty_met, empty_at, leaf_met, tops_met, leaves_met, tree_met, node_met, is_used, is_directory, is_good, is_stray, is_pointer_wrong, bad_met, inodes_from, blocks_inodes, block_met, blocks_met, nodes_of, root_met, entries_met, nodes_at, walk}
 use Rattle.image_model.proofs.InodeWalk.{used_split}
 
 abbrev pub NotPast : Met → Type 0
@@ -203,6 +203,8 @@ module _ (read : Blocks) where
       let nodes = nodes_at read at in
       let root = root_met nodes in
       let blocks = second (entries_met es) (blocks_met read 0 es ++ (root ++ below nodes)) all.1 in
-      let nodes_past = second root (below nodes) (second (blocks_met read 0 es) (root ++ below nodes) blocks) in
-      (tt, both (entries_met es) _ (entries_none es) (both (blocks_met read 0 es) _ (blocks_none 0 es nodes_past)
-      (both root _ (root_none (list_any (λ (node : ℕ × Inode). node.0 == 1 && is_directory node.1) nodes)) (below_none nodes))))
+      let nodes_past = second root (below nodes) (second (blocks_met read 0 es) (root ++ below nodes) blocks) in (
+        tt,
+        both (entries_met es) _ (entries_none es) (both (blocks_met read 0 es) _ (blocks_none 0 es nodes_past)
+            (both root _ (root_none (list_any (λ (node : ℕ × Inode). node.0 == 1 && is_directory node.1) nodes)) (below_none nodes))),
+      )

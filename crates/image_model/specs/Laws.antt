@@ -1,12 +1,12 @@
 -- Laws of what an image stands for.
-use Rattle.std.specs.Prelude.{length, Some, ◌≡◌, ◌<◌, ◌≤◌, ℕ, ◌+◌, ◌*◌, ◌^◌, List, [], ◌∷◌, ◌++◌, map, get_or, Contains, None, false, ◌-◌, true}
+use Rattle.std.specs.Prelude.{length, Some, ◌≡◌, ◌<◌, ◌≤◌, ℕ, ◌+◌, ◌*◌, ◌^◌, List, [], ◌∷◌, ◌++◌, map, get_or, false, ◌-◌, true}
 use Rattle.std.specs.List.{flat_map}
 use Rattle.std.specs.FinMap.{find}
 use Rattle.vol_numbers.specs.Layout.{Layout, count_blocks, log_start}
 use Rattle.block_format.specs.Homes.{home_bit}
 use Rattle.vol_numbers.specs.declared.block.Block.{Block}
 use Rattle.disk_model.specs.Disk.{State, IsImage}
-use Rattle.root_switch.specs.Current.{root_of_image, HasRoot, FitsImage}
+use Rattle.root_switch.specs.Current.{root_of_image, FitsImage}
 use Rattle.block_format.specs.declared.inode.Inode.{Inode}
 use Rattle.block_tree.specs.Tree.{Blocks, blocks_in, block_below, index_at, nonzero}
 use Rattle.tree_model.specs.Order.{IsOrdered}
@@ -22,10 +22,10 @@ use Rattle.volume_model.specs.Point.{after_point}
 use Rattle.volume_model.specs.Done.{mounted}
 use Rattle.volume_model.specs.Places.{Places, Spot, spot_cmp, InOrder}
 use Rattle.volume_model.specs.Space.{free_blocks}
-use Rattle.image_model.specs.Findings.{free_in, body_finding, is_in_area}
+use Rattle.image_model.specs.Findings.{free_in, is_in_area}
 use Rattle.image_model.specs.Fresh.{IsFresh, fresh_inode, fresh_stored}
 use Rattle.image_model.specs.Holds.{HoldsTree}
-use Rattle.image_model.specs.Met.{index, metas, NoFaults, pointers_to}
+use Rattle.image_model.specs.Met.{index, metas, NoFaults}
 use Rattle.block_format.specs.declared.inode.Inode.TheVariants as inode
 use Rattle.tree_model.specs.declared.node.Content.TheVariants as content
 use Rattle.image_model.specs.Nodes.{has_tail, is_bad_directory}
@@ -42,8 +42,8 @@ use Rattle.image_model.specs.Next.{HasNext, and_command}
 use Rattle.image_model.specs.Point.{HasPoint, IsAssembled}
 use Rattle.image_model.specs.Seen.{Seen, seen, counts_from}
 use Rattle.image_model.specs.Nodes.{has_tail, is_bad_directory}
-use Rattle.image_model.specs.Sound.{IsNamed, IsSound}
-use Rattle.image_model.specs.Stands.{Stands, Logs, Accepts, layout_in, node_along, node_of, spot_of, used_in}
+use Rattle.image_model.specs.Sound.{IsNamed}
+use Rattle.image_model.specs.Stands.{Stands, Accepts, layout_in, node_along, node_of, spot_of, used_in}
 
 abbrev pub OneMeaning : Type 0
 OneMeaning = (image : List Block) (s t : Stored) → Stands image s → Stands image t → s ≡ t
