@@ -1,21 +1,20 @@
 -- Where what is seen is sound, no phase before the log finds anything.
-use Rattle.std.proofs.Common.{◌≡◌, ℕ, zero, suc, ◌+◌, ◌*◌, ◌<◌, ◌≤◌, Bool, true, false, not, cond, List, [], ◌∷◌, length, get_or, Some, None, refl, sym, ap, subst, ◌∙◌, arith, add-zero}
-use Rattle.std.specs.Prelude.{◌==◌, ◌&&◌, ◌||◌, nat_eq, nat_lt, Option, Contains}
+use Rattle.std.proofs.Common.{◌≡◌, ℕ, zero, suc, ◌+◌, ◌*◌, ◌<◌, ◌≤◌, Bool, true, false, not, cond, List, [], ◌∷◌, get_or, Some, None, refl, sym, ap, subst, ◌∙◌, arith, add-zero}
+use Rattle.std.specs.Prelude.{◌==◌, ◌&&◌, ◌||◌, nat_eq, Option, Contains}
 use Rattle.std.specs.List.{list_any}
 use Rattle.std.proofs.lemmas.Bool.{eq-eqb}
 use Rattle.std.proofs.lemmas.Bool.Decides.{nat_tests}
 use Rattle.vol_numbers.specs.Layout.{Layout, count_blocks}
-use Rattle.vol_numbers.specs.declared.block.Block.{Block}
 use Rattle.root_switch.specs.Current.{root_of_image}
 use Rattle.block_format.specs.declared.inode.Inode.{Inode}
 use Rattle.block_tree.specs.Tree.{blocks_in}
 use Rattle.place_words.specs.Different.{is_among, times}
 use Rattle.image_model.specs.declared.finding.Finding.{Finding}
 use Rattle.image_model.specs.Exact.{NoneFoundEarly}
-use Rattle.image_model.specs.Findings.{◌then◌, bad_if, is_in_area, met_finding, reached_with, walk_finding, mixed_finding, count_finding, reserve_finding, body_finding, free_in}
+use Rattle.image_model.specs.Findings.{◌then◌, bad_if, is_in_area, walk_finding, mixed_finding, count_finding, body_finding}
 use Rattle.image_model.specs.Met.{Met, index, page, content, past, empty, not_inode, stray, metas, files, pointers_to, is_metadata_at, is_content_at}
-use Rattle.image_model.specs.Nodes.{first_node, has_tail, is_bad_directory, tail_finding, directory_finding, tree_finding}
-use Rattle.image_model.specs.Seen.{Seen, seen, seen_from}
+use Rattle.image_model.specs.Nodes.{first_node, has_tail, is_bad_directory, tree_finding}
+use Rattle.image_model.specs.Seen.{Seen, seen}
 use Rattle.image_model.specs.Sound.{AllGood, IsSound}
 use Rattle.image_model.specs.Stands.{layout_in}
 use Rattle.image_model.proofs.Area.{points-cons, split, alone, among_times}

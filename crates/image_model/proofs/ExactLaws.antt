@@ -1,9 +1,8 @@
 -- An image stands for something, or has one finding.
-use Rattle.std.proofs.Common.{◌≡◌, ℕ, zero, suc, ◌+◌, ◌-◌, ◌<◌, ◌≤◌, Bool, true, false, List, [], ◌∷◌, ◌++◌, length, map, Some, None, refl, sym, ap, subst, ◌∙◌, arith, length-append, ⊎_elim, inl, inr}
-use Rattle.std.specs.Prelude.{◌⊎◌, nat_lt, Option}
+use Rattle.std.proofs.Common.{◌≡◌, ℕ, zero, suc, ◌+◌, ◌<◌, ◌≤◌, Bool, true, false, List, [], ◌∷◌, ◌++◌, length, Some, None, refl, sym, ap, ◌∙◌, arith, length-append, ⊎_elim, inl, inr}
+use Rattle.std.specs.Prelude.{nat_lt, Option}
 use Rattle.std.proofs.lemmas.Bool.Decides.{nat_tests}
 use Rattle.vol_numbers.specs.declared.block.Block.{Block}
-use Rattle.root_switch.specs.Current.{root_of_image, HasRoot, FitsImage}
 use Rattle.tree_model.specs.Tree.{Tree}
 use Rattle.tree_model.specs.declared.command.Command.{Command}
 use Rattle.op_log.specs.Log.{blocks_of}
@@ -16,7 +15,7 @@ use Rattle.image_model.specs.Finds.{early_finding, HasAccepted, IsBadLog, Finds,
 use Rattle.image_model.specs.Next.{and_command}
 use Rattle.image_model.specs.Roots.{root_finding}
 use Rattle.image_model.specs.Seen.{seen}
-use Rattle.image_model.specs.Stands.{Stands, Logs, layout_in, records_in, used_in, spot_of}
+use Rattle.image_model.specs.Stands.{Stands, layout_in, records_in, used_in}
 use Rattle.image_model.proofs.BodyExact.{none_found_early}
 use Rattle.image_model.proofs.FindingLaws.{then_first, then_second}
 use Rattle.image_model.proofs.LogExact.{next_of, records_same}

@@ -1,5 +1,5 @@
 -- What the paths lead to is held node by node.
-use Rattle.std.proofs.Common.{◌≡◌, ℕ, Bool, true, List, [], ◌∷◌, ◌++◌, Some, None, refl, sym, ap, subst, ◌∙◌}
+use Rattle.std.proofs.Common.{◌≡◌, ℕ, true, [], ◌∷◌, ◌++◌, Some, None, refl, sym, ap, ◌∙◌}
 use Rattle.std.specs.Prelude.{Option, option_and_then, option_map}
 use Rattle.block_format.specs.declared.inode.Inode.{Inode}
 use Rattle.block_format.specs.declared.inode.Inode.TheVariants.{Unused, File, Directory}
@@ -14,7 +14,7 @@ use Rattle.image_model.specs.Sound.{IsNamed}
 use Rattle.image_model.specs.Stands.{node_of, node_along}
 use Rattle.image_model.specs.Walk.{is_used}
 use Rattle.image_model.proofs.Naming.{last_step}
-use Rattle.image_model.proofs.TreeNodes.{leads, Leads}
+use Rattle.image_model.proofs.TreeNodes.{leads}
 
 module _ (s : Seen) (tree : Tree) (same : (path : Path) → node_at tree path ≡ node_along s path) (named : IsNamed s) where
   node_numbered : (n : ℕ) (x : Inode) → is_used x ≡ true → (node : Node) × (node_of s n x ≡ Some node) × (node.number ≡ n)

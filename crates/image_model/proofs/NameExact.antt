@@ -1,6 +1,6 @@
 -- Where what is seen is sound, no number is lost.
-use Rattle.std.proofs.Common.{◌≡◌, ℕ, zero, suc, ◌+◌, ◌<◌, ◌≤◌, Bool, true, false, not, cond, List, [], ◌∷◌, ◌++◌, length, map, Some, None, refl, sym, ap, subst, ◌∙◌, arith}
-use Rattle.std.specs.Prelude.{◌==◌, ◌&&◌, ◌||◌, nat_eq, nat_lt, Option, option_and_then, unwrap_or, Contains, count_by, reverse}
+use Rattle.std.proofs.Common.{◌≡◌, ℕ, zero, suc, ◌+◌, ◌≤◌, Bool, true, false, not, cond, List, [], ◌∷◌, ◌++◌, length, Some, None, refl, sym, ap, subst, ◌∙◌, arith}
+use Rattle.std.specs.Prelude.{◌==◌, ◌&&◌, ◌||◌, nat_eq, nat_lt, Option, option_and_then, unwrap_or, count_by, reverse}
 use Rattle.std.specs.List.{list_any, flat_map, filter_map, AllByRecursion}
 use Rattle.std.proofs.lemmas.Bool.{eqb-true}
 use Rattle.std.proofs.lemmas.Bool.Decides.{nat_tests}
@@ -24,7 +24,7 @@ use Rattle.image_model.specs.Seen.{Seen, seen_from}
 use Rattle.image_model.specs.Slots.{slots_of, inode_of, number_in, number_along}
 use Rattle.image_model.specs.Sound.{IsSound}
 use Rattle.image_model.specs.Walk.{is_used, nodes_at, blocks_inodes}
-use Rattle.image_model.proofs.Naming.{names_are, times_mapped, leads_right, found_name, right, no_slots, directory_fine, met}
+use Rattle.image_model.proofs.Naming.{names_are, times_mapped, leads_right, found_name, right, no_slots, directory_fine}
 use Rattle.image_model.proofs.NodePlaces.{numbers, numbers_distinct, nodes_used, used_among, directory_pairs}
 use Rattle.image_model.proofs.Paths.{found_times, same_name, name_itself}
 
@@ -206,7 +206,7 @@ among_each f (c ∷ ds) d n there among = subst (λ (ns : List ℕ). is_among ns
     by true is there more = let e : c ≡ d = grind (arith, nat_tests) in among_first (f c) (flat_map f ds) n (subst (λ (k : ℕ). is_among (f k) n ≡ true) (sym e) among)
     by false is there more = among_second (f c) (flat_map f ds) n (more there)
 
-number_among : (ss : List Slot) (name : List ℕ) (n : ℕ) → number_in ss name ≡ Some n → is_among (filter_map number_named ss) n ≡ true
+pub number_among : (ss : List Slot) (name : List ℕ) (n : ℕ) → number_in ss name ≡ Some n → is_among (filter_map number_named ss) n ≡ true
 number_among [] name n found = cc
 number_among (slots.Unused ∷ ss) name n found = number_among ss name n found
 number_among (slots.Entry number other ∷ ss) name n found = by (name_eq other name) found (number_among ss name n)
@@ -270,6 +270,14 @@ module _ (s : Seen) (es : List Entry) (right : (d : ℕ) (name : List ℕ) → e
   reached_up (suc k) (name ∷ up) n le led =
       let below = step_before es name (leads es up) n led in
       among_second (reached_in s k) _ n (among_each (λ n. filter_map number_named (slots_of s n)) (reached_in s k) below.0 n (reached_up k up below.0 (omega (arith, le)) below.1) (number_among (slots_of s below.0) name n (sym (right below.0 name) ∙ below.2)))
+
+pub different_most : (xs : List ℕ) → different xs ≤ length xs
+different_most [] = omega arith
+different_most (x ∷ xs) = by (is_among xs x) (different_most xs)
+  where
+    by : (t : Bool) → different xs ≤ length xs → cond t (different xs) (different xs + 1) ≤ length (x ∷ xs)
+    by true le = omega (arith, le)
+    by false le = omega (arith, le)
 
 -- ---- an image that is sound
 
@@ -392,14 +400,6 @@ module _ (read : Blocks) (at : ℕ) (homes : List ℕ) (count : ℕ) (g : Layout
   trail_used up m led k among =
       let from = trail_from s es right_here up m led k among in
       sym (used_among nodes (nodes_used (blocks_inodes read 0 (index_at read at))) k) ∙ used_up from.0 k from.2
-
-  different_most : (xs : List ℕ) → different xs ≤ length xs
-  different_most [] = omega arith
-  different_most (x ∷ xs) = by (is_among xs x) (different_most xs)
-    where
-      by : (t : Bool) → different xs ≤ length xs → cond t (different xs) (different xs + 1) ≤ length (x ∷ xs)
-      by true le = omega (arith, le)
-      by false le = omega (arith, le)
 
   numbers_long : (ns : List (ℕ × Inode)) → length (numbers ns) ≡ length ns
   numbers_long [] = refl

@@ -1,36 +1,32 @@
 -- The entries of directories, and what they lead to.
-use Rattle.std.proofs.Common.{◌≡◌, ℕ, zero, suc, ◌+◌, ◌-◌, ◌<◌, ◌≤◌, Bool, true, false, not, cond, List, [], ◌∷◌, ◌++◌, length, map, Some, None, refl, sym, ap, subst, ◌∙◌, arith, add-zero}
-use Rattle.std.specs.Prelude.{◌==◌, ◌&&◌, ◌||◌, nat_eq, nat_lt, nat_le, Option, option_and_then, Contains, count_by, reverse}
+use Rattle.std.proofs.Common.{◌≡◌, ℕ, ◌+◌, ◌≤◌, Bool, true, false, not, cond, List, [], ◌∷◌, ◌++◌, length, map, Some, None, refl, sym, ap, subst, ◌∙◌, arith}
+use Rattle.std.specs.Prelude.{◌==◌, ◌&&◌, ◌||◌, nat_eq, nat_le, Option, option_and_then, Contains, count_by, reverse}
 use Rattle.std.specs.List.{list_any, list_all, flat_map, filter_map, AllByRecursion}
 use Rattle.std.proofs.lemmas.Bool.{eqb-true}
 use Rattle.std.proofs.lemmas.Bool.Decides.{nat_tests}
 use Rattle.std.proofs.lemmas.List.{map-append, reverse-append, reverse-reverse}
 use Rattle.std.proofs.lemmas.List.Concat.{flat_map-cons}
 use Rattle.std.proofs.lemmas.List.Sums.{sum_by-cons}
-use Rattle.vol_numbers.specs.Layout.{Layout, count_blocks}
-use Rattle.root_switch.specs.Current.{root_of_image}
+use Rattle.vol_numbers.specs.Layout.{Layout}
 use Rattle.block_format.specs.declared.inode.Inode.{Inode}
 use Rattle.block_format.specs.declared.inode.Inode.TheVariants.{Unused, File, Directory}
 use Rattle.block_format.specs.declared.slot.Slot.{Slot}
 use Rattle.block_format.specs.declared.slot.Slot.TheVariants as slots
-use Rattle.block_tree.specs.Tree.{Blocks, index_at, nonzero, blocks_in}
+use Rattle.block_tree.specs.Tree.{Blocks, index_at, nonzero}
 use Rattle.place_words.specs.Different.{is_among, Distinct}
 use Rattle.tree_model.specs.Path.{Path, name_eq}
-use Rattle.image_model.specs.declared.finding.Finding.TheVariants.{NotATree}
 use Rattle.image_model.specs.Entries.{Entry, is_of, entry_at, leads, times_named, NamesOnce, entries_in, entries_of}
-use Rattle.image_model.specs.Findings.{walk_finding, mixed_finding, body_finding}
 use Rattle.image_model.specs.Met.{Met, index}
-use Rattle.image_model.specs.Nodes.{has_twin, is_bad_directory, is_entry_name, is_slot_spelled, number_named, names_of, reached_in, is_lost, lost_finding, tail_finding, directory_finding, tree_finding}
+use Rattle.image_model.specs.Nodes.{has_twin, is_bad_directory, is_entry_name, is_slot_spelled, number_named, names_of}
 use Rattle.image_model.specs.Planned.{node_trees}
-use Rattle.image_model.specs.Seen.{Seen, Held, seen, seen_from, all_held, page_held}
+use Rattle.image_model.specs.Seen.{Seen, Held, seen_from, all_held, page_held}
 use Rattle.image_model.specs.Slots.{slot_pieces, slots_of, slots_from, inode_of, number_in, number_along}
-use Rattle.image_model.specs.Sound.{IsNamed, AllGood}
-use Rattle.image_model.specs.Stands.{layout_in}
+use Rattle.image_model.specs.Sound.{AllGood}
 use Rattle.image_model.specs.Walk.{is_used, is_directory, nodes_at, blocks_inodes}
 use Rattle.image_model.proofs.Area.{no_faults}
 use Rattle.image_model.proofs.NodePlaces.{numbers_distinct, nodes_used, used_among, directory_pairs, pages_at, is_of as is_of_number}
 use Rattle.image_model.proofs.NodeWalk.{WalkMet, walk_good}
-use Rattle.image_model.proofs.Paths.{one_path, found_times, same_name, name_itself}
+use Rattle.image_model.proofs.Paths.{one_path, same_name, name_itself}
 use Rattle.image_model.proofs.PlanLaws.{nodes_limits}
 use Rattle.image_model.proofs.SpaceLaws.{node_there}
 

@@ -1,8 +1,7 @@
 -- One record more, and the places after a point.
-use Rattle.std.proofs.Common.{◌≡◌, ℕ, ◌+◌, ◌≤◌, List, [], ◌∷◌, ◌++◌, map, refl, sym, ap, subst, ◌∙◌, arith}
+use Rattle.std.proofs.Common.{◌≡◌, ℕ, ◌+◌, ◌≤◌, List, [], ◌∷◌, ◌++◌, refl, sym, subst, arith}
 use Rattle.std.specs.FinMap.{put}
 use Rattle.std.specs.FinMap.Entries.{is_sorted-put}
-use Rattle.vol_numbers.specs.declared.block.Block.{Block}
 use Rattle.space_account.specs.Charge.{charge, need, pending}
 use Rattle.tree_model.specs.Step.{step}
 use Rattle.tree_model.specs.Tree.{Tree}

@@ -79,15 +79,15 @@ node_spots read (n, Unused) = []
 node_spots read (n, File size height ptr) = map (λ (e : ℕ × ℕ). ((n, e.0), e.1)) (pairs_below read height ptr)
 node_spots read (n, Directory width height ptr) = []
 
-held_append : (f : Met → List Held) (xs ys : List Met) → all_held f (xs ++ ys) ≡ all_held f xs ++ all_held f ys
+pub held_append : (f : Met → List Held) (xs ys : List Met) → all_held f (xs ++ ys) ≡ all_held f xs ++ all_held f ys
 held_append f [] ys = refl
 held_append f (x ∷ xs) ys = ap (λ (hs : List Held). f x ++ hs) (held_append f xs ys) ∙ sym (append_assoc (f x) (all_held f xs) (all_held f ys))
 
-no_contents : (read : Blocks) (bs : List ℕ) → all_held (content_held read) (map index bs) ≡ []
+pub no_contents : (read : Blocks) (bs : List ℕ) → all_held (content_held read) (map index bs) ≡ []
 no_contents read [] = refl
 no_contents read (b ∷ bs) = no_contents read bs
 
-page_contents : (read : Blocks) (n : ℕ) (pairs : List (ℕ × ℕ)) → all_held (content_held read) (map (λ (e : ℕ × ℕ). page n e.0 e.1) pairs) ≡ []
+pub page_contents : (read : Blocks) (n : ℕ) (pairs : List (ℕ × ℕ)) → all_held (content_held read) (map (λ (e : ℕ × ℕ). page n e.0 e.1) pairs) ≡ []
 page_contents read n [] = refl
 page_contents read n (e ∷ pairs) = page_contents read n pairs
 
@@ -188,15 +188,15 @@ directory_pairs read Unused = []
 directory_pairs read (File size height ptr) = []
 directory_pairs read (Directory width height ptr) = pairs_below read height ptr
 
-no_pages : (read : Blocks) (bs : List ℕ) → all_held (page_held read) (map index bs) ≡ []
+pub no_pages : (read : Blocks) (bs : List ℕ) → all_held (page_held read) (map index bs) ≡ []
 no_pages read [] = refl
 no_pages read (b ∷ bs) = no_pages read bs
 
-file_pages : (read : Blocks) (n : ℕ) (pairs : List (ℕ × ℕ)) → all_held (page_held read) (map (λ (e : ℕ × ℕ). content n e.0 e.1) pairs) ≡ []
+pub file_pages : (read : Blocks) (n : ℕ) (pairs : List (ℕ × ℕ)) → all_held (page_held read) (map (λ (e : ℕ × ℕ). content n e.0 e.1) pairs) ≡ []
 file_pages read n [] = refl
 file_pages read n (e ∷ pairs) = file_pages read n pairs
 
-nil_either : (t : Bool) → zero ≡ cond t zero zero
+pub nil_either : (t : Bool) → zero ≡ cond t zero zero
 nil_either true = refl
 nil_either false = refl
 

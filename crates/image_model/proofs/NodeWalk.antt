@@ -13,7 +13,7 @@ use Rattle.block_tree.specs.Tree.{Blocks, index_at, pairs_below, indexes_below, 
 use Rattle.block_tree.proofs.Count.{index_count}
 use Rattle.place_words.specs.Index.{index_blocks}
 use Rattle.place_words.specs.Different.{different}
-use Rattle.image_model.specs.Met.{Met, index, page, content, not_inode, meta_of, metas, NoFaults, stray}
+use Rattle.image_model.specs.Met.{Met, index, page, content, not_inode, meta_of, metas, NoFaults}
 use Rattle.image_model.specs.Nodes.{AllBelow, blocks_in_node}
 use Rattle.image_model.specs.Planned.{node_trees}
 use Rattle.image_model.specs.Walk.{is_directory, walk, nodes_at, node_met, blocks_met, blocks_inodes, nodes_of, root_met, entries_met}

@@ -1,10 +1,10 @@
 -- The finding of the first phase that has one is that of the image.
-use Rattle.std.proofs.Common.{◌≡◌, ◌*◌, ℕ, List, [], ◌∷◌, Some, None, ap, ◌∙◌}
+use Rattle.std.proofs.Common.{◌≡◌, ◌*◌, ℕ, List, [], Some, None, ap, ◌∙◌}
 use Rattle.std.specs.Prelude.{Option}
 use Rattle.vol_numbers.specs.Layout.{Layout, count_blocks}
 use Rattle.vol_numbers.specs.declared.block.Block.{Block}
 use Rattle.image_model.specs.declared.finding.Finding.{Finding}
-use Rattle.image_model.specs.Findings.{◌then◌, walk_finding, mixed_finding, count_finding, reserve_finding, body_finding}
+use Rattle.image_model.specs.Findings.{◌then◌, walk_finding, mixed_finding, body_finding}
 use Rattle.image_model.specs.Finds.{early_finding}
 use Rattle.image_model.specs.Nodes.{tail_finding, directory_finding, tree_finding}
 use Rattle.image_model.specs.Roots.{root_finding}

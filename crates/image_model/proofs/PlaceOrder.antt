@@ -121,7 +121,7 @@ both_tie Less b e = cc
 both_tie Equal b e = (refl, e)
 both_tie Greater b e = cc
 
-spot_tie : (a b : Spot) → spot_cmp a b ≡ Equal → a ≡ b
+pub spot_tie : (a b : Spot) → spot_cmp a b ≡ Equal → a ≡ b
 spot_tie a b e =
     let two = both_tie (nat_cmp a.0 b.0) (nat_cmp a.1 b.1) e in
     λ i. (nat_tie a.0 b.0 two.0 i, nat_tie a.1 b.1 two.1 i)

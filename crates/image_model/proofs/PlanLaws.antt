@@ -171,11 +171,11 @@ leads_by_number m read was at before_at inode old_inode es old_es for_inodes for
 
 -- ---- no fault is met in what is spelled
 
-faults_append : (xs ys : List Met) → NoFaults xs → NoFaults ys → NoFaults (xs ++ ys)
+pub faults_append : (xs ys : List Met) → NoFaults xs → NoFaults ys → NoFaults (xs ++ ys)
 faults_append [] ys a b = b
 faults_append (x ∷ xs) ys a b = (a.0, faults_append xs ys a.1 b)
 
-index_fine : (bs : List ℕ) → NoFaults (map index bs)
+pub index_fine : (bs : List ℕ) → NoFaults (map index bs)
 index_fine [] = tt
 index_fine (b ∷ bs) = (tt, index_fine bs)
 
@@ -192,7 +192,7 @@ node_fine read (n, Unused) = tt
 node_fine read (n, File size height ptr) = faults_append _ _ (index_fine (indexes_below read height ptr)) (content_fine n (pairs_below read height ptr))
 node_fine read (n, Directory width height ptr) = faults_append _ _ (index_fine (indexes_below read height ptr)) (page_fine n (pairs_below read height ptr))
 
-nodes_fine : (read : Blocks) (nodes : List (ℕ × Inode)) → NoFaults (flat_map (node_trees read) nodes)
+pub nodes_fine : (read : Blocks) (nodes : List (ℕ × Inode)) → NoFaults (flat_map (node_trees read) nodes)
 nodes_fine read [] = tt
 nodes_fine read (node ∷ nodes) = subst NoFaults (sym (flat_map-cons (node_trees read) node nodes)) (faults_append _ _ (node_fine read node) (nodes_fine read nodes))
 

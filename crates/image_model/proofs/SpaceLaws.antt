@@ -50,12 +50,12 @@ bytes_length held n place (suc k) =
     let here = take 4096 (held_at held n place ++ replicate 4096 0) in
     omega (arith, length-append here (bytes_from held n (place + 1) k), held_length (held_at held n place), bytes_length held n (place + 1) k)
 
-file_length : (held : List Held) (n size : ℕ) → length (take size (bytes_from held n 0 (blocks_of size))) ≡ size
+pub file_length : (held : List Held) (n size : ℕ) → length (take size (bytes_from held n 0 (blocks_of size))) ≡ size
 file_length held n size = omega (arith, length-take size (bytes_from held n 0 (blocks_of size)), bytes_length held n 0 (blocks_of size))
 
 -- ---- a directory's places are all that it has
 
-under : (blocks : ℕ) (pairs : List (ℕ × ℕ)) → AllBelow blocks pairs → AllUnder (0 + blocks) (map (λ (e : ℕ × ℕ). e.0) pairs)
+pub under : (blocks : ℕ) (pairs : List (ℕ × ℕ)) → AllBelow blocks pairs → AllUnder (0 + blocks) (map (λ (e : ℕ × ℕ). e.0) pairs)
 under blocks [] below = tt
 under blocks (e ∷ pairs) below = (let is = below.0 in grind (arith, nat_tests), under blocks pairs below.1)
 
@@ -68,7 +68,7 @@ full_places read blocks height ptr below full = rising_full 0 blocks _ (pairs_ri
 
 -- ---- what is known of each node by its number
 
-below_at : (read : Blocks) (nodes : List (ℕ × Inode)) → AllMet read nodes → (n : ℕ) → AllBelow (blocks_in_node (inode_of nodes n)) (pairs_of_node read (inode_of nodes n))
+pub below_at : (read : Blocks) (nodes : List (ℕ × Inode)) → AllMet read nodes → (n : ℕ) → AllBelow (blocks_in_node (inode_of nodes n)) (pairs_of_node read (inode_of nodes n))
 below_at read [] all n = tt
 below_at read (node ∷ nodes) all n = by (node.0 == n) (below_at read nodes all.1 n)
   where

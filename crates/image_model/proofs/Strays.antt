@@ -13,7 +13,7 @@ use Rattle.block_tree.specs.Tree.{Blocks, index_at}
 use Rattle.image_model.specs.declared.finding.Finding.{Finding}
 use Rattle.image_model.specs.Findings.{◌then◌, met_finding, reached_with, walk_finding}
 use Rattle.image_model.specs.Met.{Met, index, page, content, past, empty, not_inode, stray}
-use Rattle.image_model.specs.Walk.{met_at, places_met, empty_met, empty_at, leaf_met, tops_met, leaves_met, tree_met, node_met, is_used, is_directory, is_good, is_stray, is_pointer_wrong, bad_met, inodes_from, blocks_inodes, block_met, blocks_met, nodes_of, root_met, entries_met, nodes_at, walk}
+use Rattle.image_model.specs.Walk.{places_met, empty_met, empty_at, leaf_met, tops_met, leaves_met, tree_met, node_met, is_used, is_directory, is_good, is_stray, is_pointer_wrong, bad_met, inodes_from, blocks_inodes, block_met, blocks_met, nodes_of, root_met, entries_met, nodes_at, walk}
 use Rattle.image_model.proofs.InodeWalk.{used_split}
 
 abbrev pub NotPast : Met → Type 0

@@ -13,7 +13,7 @@ use Rattle.block_tree.specs.Planned.{pointers_of}
 use Rattle.block_tree.specs.Tree.{Blocks, index_at, nonzero, pairs_below, indexes_below, IsFull}
 use Rattle.block_tree.proofs.Spell.{pointers_small}
 use Rattle.place_words.specs.Different.{span, times, total}
-use Rattle.image_model.specs.Met.{Met, index, page, content, not_inode, metas, stray}
+use Rattle.image_model.specs.Met.{Met, index, page, content, not_inode, metas}
 use Rattle.image_model.specs.Nodes.{AllBelow, blocks_in_node}
 use Rattle.image_model.specs.Planned.{node_trees, used_from, height_in, IsSpelled, CountsStand}
 use Rattle.image_model.specs.Seen.{home_in, counts_from}

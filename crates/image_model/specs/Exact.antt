@@ -1,5 +1,5 @@
 -- Laws of what is found: nothing in an image that stands for something, and something in every other.
-use Rattle.std.specs.Prelude.{◌≡◌, ◌↔◌, ℕ, List, map, Some, None}
+use Rattle.std.specs.Prelude.{◌≡◌, ◌↔◌, List, map, Some, None}
 use Rattle.vol_numbers.specs.declared.block.Block.{Block}
 use Rattle.root_switch.specs.Current.{root_of_image, HasRoot, FitsImage}
 use Rattle.tree_model.specs.Order.{IsOrdered}

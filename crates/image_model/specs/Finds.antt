@@ -1,5 +1,5 @@
 -- What is found in an image: the first finding of the first phase that has one.
-use Rattle.std.specs.Prelude.{◌≡◌, ◌<◌, ◌⊎◌, ℕ, List, [], ◌∷◌, ◌++◌, length, Option, Some, None}
+use Rattle.std.specs.Prelude.{◌≡◌, ◌<◌, ◌⊎◌, ℕ, List, length, Option, Some, None}
 use Rattle.vol_numbers.specs.Layout.{log_start}
 use Rattle.vol_numbers.specs.declared.block.Block.{Block}
 use Rattle.tree_model.specs.declared.command.Command.{Command}

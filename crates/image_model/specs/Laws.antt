@@ -1,14 +1,14 @@
 -- Laws of what an image stands for.
-use Rattle.std.specs.Prelude.{◌≡◌, ◌<◌, ◌≤◌, ℕ, ◌+◌, ◌*◌, ◌^◌, List, [], ◌∷◌, ◌++◌, map, get_or, Contains, None, false, ◌-◌, true}
+use Rattle.std.specs.Prelude.{length, Some, ◌≡◌, ◌<◌, ◌≤◌, ℕ, ◌+◌, ◌*◌, ◌^◌, List, [], ◌∷◌, ◌++◌, map, get_or, false, ◌-◌, true}
 use Rattle.std.specs.List.{flat_map}
 use Rattle.std.specs.FinMap.{find}
 use Rattle.vol_numbers.specs.Layout.{Layout, count_blocks, log_start}
 use Rattle.block_format.specs.Homes.{home_bit}
 use Rattle.vol_numbers.specs.declared.block.Block.{Block}
 use Rattle.disk_model.specs.Disk.{State, IsImage}
-use Rattle.root_switch.specs.Current.{root_of_image, HasRoot, FitsImage}
+use Rattle.root_switch.specs.Current.{root_of_image, FitsImage}
 use Rattle.block_format.specs.declared.inode.Inode.{Inode}
-use Rattle.block_tree.specs.Tree.{Blocks, index_at, nonzero}
+use Rattle.block_tree.specs.Tree.{Blocks, blocks_in, block_below, index_at, nonzero}
 use Rattle.tree_model.specs.Order.{IsOrdered}
 use Rattle.tree_model.specs.Path.{Path}
 use Rattle.tree_model.specs.Shape.{IsTree}
@@ -22,10 +22,17 @@ use Rattle.volume_model.specs.Point.{after_point}
 use Rattle.volume_model.specs.Done.{mounted}
 use Rattle.volume_model.specs.Places.{Places, Spot, spot_cmp, InOrder}
 use Rattle.volume_model.specs.Space.{free_blocks}
-use Rattle.image_model.specs.Findings.{free_in, body_finding, is_in_area}
+use Rattle.image_model.specs.Findings.{free_in, is_in_area}
 use Rattle.image_model.specs.Fresh.{IsFresh, fresh_inode, fresh_stored}
 use Rattle.image_model.specs.Holds.{HoldsTree}
-use Rattle.image_model.specs.Met.{index, metas, NoFaults, pointers_to}
+use Rattle.image_model.specs.Met.{index, metas, NoFaults}
+use Rattle.block_format.specs.declared.inode.Inode.TheVariants as inode
+use Rattle.tree_model.specs.declared.node.Content.TheVariants as content
+use Rattle.image_model.specs.Nodes.{has_tail, is_bad_directory}
+use Rattle.image_model.specs.Slots.{inode_of, number_in, slots_of}
+use Rattle.block_format.specs.declared.slot.Slot.{Slot}
+use Rattle.dir_slots.specs.Slots.{number_in as numbers_in}
+use Rattle.image_model.specs.Standing.{some_block, FileStands, DirectoryStands}
 use Rattle.image_model.specs.Plan.{IsPlanned, taken_in}
 use Rattle.place_words.specs.Different.{times}
 use Rattle.image_model.specs.Planned.{IsSpelled, CountsStand, used_from, node_trees}
@@ -35,8 +42,8 @@ use Rattle.image_model.specs.Next.{HasNext, and_command}
 use Rattle.image_model.specs.Point.{HasPoint, IsAssembled}
 use Rattle.image_model.specs.Seen.{Seen, seen, counts_from}
 use Rattle.image_model.specs.Nodes.{has_tail, is_bad_directory}
-use Rattle.image_model.specs.Sound.{IsNamed, IsSound}
-use Rattle.image_model.specs.Stands.{Stands, Logs, Accepts, layout_in, node_along, spot_of, used_in}
+use Rattle.image_model.specs.Sound.{IsNamed}
+use Rattle.image_model.specs.Stands.{Stands, Accepts, layout_in, node_along, node_of, spot_of, used_in}
 
 abbrev pub OneMeaning : Type 0
 OneMeaning = (image : List Block) (s t : Stored) → Stands image s → Stands image t → s ≡ t
@@ -76,6 +83,14 @@ PointStands = (old new : List Block) (before s : Stored) → Stands old before �
 abbrev pub TreeExists : Type 0
 TreeExists = (s : Seen) → IsNamed s → (tree : Tree) × IsOrdered tree × ((path : Path) → node_at tree path ≡ node_along s path)
 
+-- What an image stands for is a tree in all that is asked of one: fronts of paths are directories, and numbers, widths and sizes have their limits.
+abbrev pub StandingTree : Type 0
+StandingTree = (image : List Block) (s : Stored) → Stands image s → IsTree s.tree
+
+-- The inodes of a volume that is spelled are those that are seen, and no fault is met.
+abbrev pub InodesAreSeen : Type 0
+InodesAreSeen = (image : List Block) (of : ℕ → Inode) → IsSpelled (blocks_in image) (root_of_image image).inode_index of → NoFaults (seen image).met × ((n : ℕ) → n < 65536 → inode_of (seen image).nodes n ≡ of n)
+
 -- An image that stands for a tree holds it node by node.
 abbrev pub TreeIsHeld : Type 0
 TreeIsHeld = (image : List Block) (s : Stored) → Stands image s → HoldsTree (seen image) s.tree
@@ -111,6 +126,23 @@ pub record WritesNoLive (image : List Block) : Type 0 where
 
 abbrev pub NotLive : Type 0
 NotLive = (image : List Block) → FitsImage image → WritesNoLive image
+
+-- A file that stands in the blocks below its inode is the file that is seen, and has no tail.
+abbrev pub FileIsSeen : Type 0
+FileIsSeen = (image : List Block) (n : ℕ) (bytes : List ℕ) (height ptr : ℕ) → NoFaults (seen image).met → inode_of (seen image).nodes n ≡ inode.File (length bytes) height ptr
+    → FileStands (blocks_in image) bytes height ptr
+    → (node_of (seen image) n (inode.File (length bytes) height ptr) ≡ Some (record { number = n; content = content.File bytes })) × (has_tail (seen image) (n, inode.File (length bytes) height ptr) ≡ false)
+
+-- The places that are seen of a file are those below its inode.
+abbrev pub PlacesAreSeen : Type 0
+PlacesAreSeen = (image : List Block) (n size height ptr place : ℕ) → NoFaults (seen image).met → inode_of (seen image).nodes n ≡ inode.File size height ptr
+    → find spot_cmp (n, place) (map spot_of (seen image).contents) ≡ some_block (block_below (blocks_in image) height ptr place)
+
+-- A directory that stands in the blocks below its inode is sound, and its names have the numbers that its slots say.
+abbrev pub DirectoryIsSeen : Type 0
+DirectoryIsSeen = (image : List Block) (n : ℕ) (slots : List Slot) (height ptr : ℕ) → NoFaults (seen image).met → inode_of (seen image).nodes n ≡ inode.Directory (length slots) height ptr
+    → DirectoryStands (blocks_in image) slots height ptr
+    → (is_bad_directory (seen image) (n, inode.Directory (length slots) height ptr) ≡ false) × ((name : List ℕ) → number_in (slots_of (seen image) n) name ≡ numbers_in slots name)
 
 -- The places that are seen are in order.
 abbrev pub PlacesInOrder : Type 0

@@ -1,5 +1,5 @@
 -- What is wrong with the root of an image, if anything.
-use Rattle.std.specs.Prelude.{ℕ, zero, suc, ◌+◌, ◌-◌, ◌==◌, ◌&&◌, ◌||◌, not, nat_le, nat_lt, bytes_eq, Bool, true, List, length, Option}
+use Rattle.std.specs.Prelude.{ℕ, zero, suc, ◌+◌, ◌-◌, ◌==◌, ◌&&◌, not, nat_le, bytes_eq, Bool, true, List, length, Option}
 use Rattle.vol_numbers.specs.Layout.{Layout, area_start, count_blocks}
 use Rattle.vol_numbers.specs.declared.block.Block.{Block}
 use Rattle.block_format.specs.Homes.{home_bit}

@@ -7,7 +7,7 @@ use Rattle.block_format.specs.Root.{Root}
 use Rattle.root_switch.specs.Current.{root_of_image}
 use Rattle.block_format.specs.Words.{words}
 use Rattle.block_format.specs.declared.inode.Inode.{Inode}
-use Rattle.image_model.specs.Met.{Met, index, page, content, past, empty, not_inode, stray}
+use Rattle.image_model.specs.Met.{Met, page, content}
 use Rattle.block_tree.specs.Tree.{Blocks, blocks_in}
 use Rattle.image_model.specs.Walk.{nodes_at, walk}
 
