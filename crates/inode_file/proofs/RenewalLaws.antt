@@ -12,7 +12,8 @@ use Rattle.block_format.specs.declared.inode.Inode.{Inode}
 use Rattle.block_format.specs.declared.inode.Inode.TheVariants.{Unused, File, Directory}
 use Rattle.place_words.specs.Different.{times}
 use Rattle.block_tree.specs.Tree.{nonzero}
-use Rattle.block_tree.specs.Notes.{Noted, page_blocks}
+use Rattle.block_tree.specs.Notes.{page_blocks}
+use Rattle.inode_file.specs.Noted.{Noted}
 use Rattle.block_tree.proofs.EntryLaws.{index_there}
 use Rattle.block_tree.proofs.NoteLaws.{times-append, refs-set, stand_front, stand_last}
 use Rattle.inode_file.specs.Inodes.{InodeTable, inode_of, block_of, is_used, LeadsTo}

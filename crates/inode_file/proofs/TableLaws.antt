@@ -8,7 +8,8 @@ use Rattle.block_format.specs.declared.inode.Inode.{Inode}
 use Rattle.block_format.specs.declared.inode.Inode.TheVariants.{Unused}
 use Rattle.block_tree.specs.Tree.{Blocks, index_at}
 use Rattle.inode_file.specs.Inodes.{InodeTable, inode_of, block_of, is_used, IsTable, LeadsTo, Stands}
-use Rattle.block_tree.specs.Notes.{Noted, page_blocks}
+use Rattle.block_tree.specs.Notes.{page_blocks}
+use Rattle.inode_file.specs.Noted.{Noted}
 use Rattle.block_tree.proofs.NoteLaws.{refs-append}
 use Rattle.inode_file.specs.Rewriting.{is_written, only_if, passing_from}
 use Rattle.inode_file.specs.Renewal.{AreRenewed, IsIndexRenewed, IsPlanned, all_written}

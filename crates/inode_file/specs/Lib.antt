@@ -3,5 +3,6 @@ pub mod Counting
 pub mod Inodes
 pub mod Laws
 pub mod Loading
+pub mod Noted
 pub mod Renewal
 pub mod Rewriting

@@ -2,7 +2,8 @@
 use Rattle.std.specs.Prelude.{◌≡◌, ◌<◌, ◌≤◌, ℕ, Bool, true, false, List, [], ◌∷◌, ◌++◌, length, take, slice_index}
 use Rattle.block_format.specs.declared.inode.Inode.{Inode}
 use Rattle.block_tree.specs.Tree.{Blocks, index_at, nonzero}
-use Rattle.block_tree.specs.Notes.{Noted, Stand, Settles, page_blocks}
+use Rattle.block_tree.specs.Notes.{Stand, page_blocks}
+use Rattle.inode_file.specs.Noted.{Noted, Settles}
 use Rattle.inode_file.specs.Inodes.{InodeTable, LeadsTo, IsTable, Stands, block_of}
 use Rattle.inode_file.specs.Rewriting.{has_used, is_current, is_fresh, has_nodes, is_unchanged, is_written, only_if, passing_from, written_in_order}
 use Rattle.inode_file.specs.Counting.{used_positions}

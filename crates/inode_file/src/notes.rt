@@ -1,6 +1,6 @@
 //! What a rewriting has found so far: the pages that are to be written, and the pointers that come and go.
 ghost use Rattle.std.specs.Prelude.{◌≡◌, [], ◌∷◌, ◌++◌, OnOk};
-ghost use Rattle.block_tree.specs.Notes.{no_notes};
+ghost use Rattle.inode_file.specs.Noted.{no_notes};
 ghost use Rattle.block_tree.specs.Tree.{nonzero};
 
 use block_tree::{Rewritten, TreeRoot};
@@ -17,7 +17,7 @@ pub(crate) struct Notes {
 }
 
 impl Model for Notes {
-    ghost use Rattle.block_tree.specs.Notes.{Noted};
+    ghost use Rattle.inode_file.specs.Noted.{Noted};
 
     ghost Value = { Noted };
 
