@@ -12,7 +12,7 @@ use Rattle.block_format.specs.declared.inode.Inode.{Inode}
 use Rattle.block_tree.specs.Tree.{Blocks}
 use Rattle.block_tree.specs.declared.fault.TreeFault.{TreeFault}
 use Rattle.block_tree.specs.declared.fault.TreeFault.TheVariants.{Device, Damaged, OutOfMemory}
-use Rattle.inode_file.specs.Inodes.{block_of, inode_of, LeadsTo}
+use Rattle.inode_file.specs.Inodes.{block_of, inode_of}
 use Rattle.inode_file.specs.Loading.{HasDamage, IsLoadDamage}
 use Rattle.inode_file.proofs.CountingLaws.{or_second}
 
@@ -55,12 +55,10 @@ earlier_block inodes block j k lt long =
     ap (λ (xs : List Inode). take 64 xs) (drop-append-le (64 * j) inodes block (omega (arith, long, lt)))
     ∙ take-append-le 64 (drop (64 * j) inodes) block (omega (arith, length-drop (64 * j) inodes, long, lt))
 
--- one block more was read
-pub leads_more : (read : Blocks) (pointers : List ℕ) (inodes block : List Inode) (k : ℕ) → length inodes ≡ 64 * k → length block ≡ 64
-    → ((j : ℕ) → j < k → LeadsTo read (slice_index pointers j) (block_of inodes j)) → LeadsTo read (slice_index pointers k) block
-    → (j : ℕ) → j < k + 1 → LeadsTo read (slice_index pointers j) (block_of (inodes ++ block) j)
-leads_more read pointers inodes block k long full before is j lt = ⊎_elim
-    (λ (e : j ≡ k). subst (λ (i : ℕ). LeadsTo read (slice_index pointers i) (block_of (inodes ++ block) i)) (sym e)
-    (subst (λ (b : List Inode). LeadsTo read (slice_index pointers k) b) (sym (last_block inodes block k long full)) is))
-    (λ (ne : j ≡ k → ⊥). subst (λ (b : List Inode). LeadsTo read (slice_index pointers j) b) (sym (earlier_block inodes block j k (omega (arith, lt, ne)) long)) (before j (omega (arith, lt, ne))))
+-- what holds of each block, after one more was read
+pub blocks_more : (P : ℕ → List Inode → Type 0) (inodes block : List Inode) (k : ℕ) → length inodes ≡ 64 * k → length block ≡ 64 → ((j : ℕ) → j < k → P j (block_of inodes j)) → P k block
+    → (j : ℕ) → j < k + 1 → P j (block_of (inodes ++ block) j)
+blocks_more P inodes block k long full before is j lt = ⊎_elim
+    (λ (e : j ≡ k). subst (λ (i : ℕ). P i (block_of (inodes ++ block) i)) (sym e) (subst (λ (b : List Inode). P k b) (sym (last_block inodes block k long full)) is))
+    (λ (ne : j ≡ k → ⊥). subst (λ (b : List Inode). P j b) (sym (earlier_block inodes block j k (omega (arith, lt, ne)) long)) (before j (omega (arith, lt, ne))))
     (cases_eq j k)

@@ -1,7 +1,8 @@
 -- Pointers at the positions that pass a test.
-use Rattle.std.proofs.Common.{◌≡◌, ◌<◌, ◌≤◌, ℕ, suc, ◌+◌, Bool, true, false, List, [], ◌∷◌, ◌++◌, length, set, take, drop, refl, ap, sym, ◌∙◌, arith, append_assoc, add-one}
+use Rattle.std.proofs.Common.{◌≡◌, ⊎_elim, ◌<◌, ◌≤◌, ℕ, suc, ◌+◌, Bool, true, false, List, [], ◌∷◌, ◌++◌, length, set, take, drop, refl, ap, sym, ◌∙◌, arith, append_assoc, add-one}
 use Rattle.std.specs.Prelude.{slice_index}
 use Rattle.std.proofs.Math.Seq.{take-suc-set, drop-cons}
+use Rattle.std.proofs.lemmas.Bool.{cases_eq}
 use Rattle.std.proofs.lemmas.List.{append-nil, drop_all, length-append, length-take-le}
 use Rattle.inode_file.specs.Rewriting.{passing_from, only_if}
 
@@ -46,3 +47,54 @@ count_step test xs k count total lt is =
 
 pub counted_all : (test : ℕ → Bool) (xs : List ℕ) (k count total : ℕ) → length xs ≤ k → count + length (passing_from test k (drop k xs)) ≡ total → count ≡ total
 counted_all test xs k count total le is = omega (arith, is, ap (λ (ys : List ℕ). length (passing_from test k ys)) (drop_all k xs le))
+
+-- no position passes
+pub passing_none : (test : ℕ → Bool) (k : ℕ) (xs : List ℕ) → ((i : ℕ) → i < length xs → test (k + i) ≡ false) → passing_from test k xs ≡ []
+passing_none test k [] none = refl
+passing_none test k (x ∷ xs) none =
+    let first : test k ≡ false = ap test (sym (plus_zero k)) ∙ none 0 (omega arith) in
+    ap (λ (t : Bool). only_if t x ++ passing_from test (k + 1) xs) first
+    ∙ passing_none test (k + 1) xs (λ i lt. ap test (next k i) ∙ none (suc i) (omega (arith, lt)))
+  where
+    plus_zero : (n : ℕ) → n + 0 ≡ n
+    plus_zero n = omega arith
+
+    next : (n i : ℕ) → n + 1 + i ≡ n + suc i
+    next n i = omega arith
+
+-- Two tests that agree from a position on.
+passing_agree : (f g : ℕ → Bool) (k : ℕ) (xs : List ℕ) → ((j : ℕ) → k ≤ j → f j ≡ g j) → length (passing_from f k xs) ≡ length (passing_from g k xs)
+passing_agree f g k [] same = refl
+passing_agree f g k (x ∷ xs) same = omega (
+  arith,
+  length-append (only_if (f k) x) (passing_from f (k + 1) xs),
+  length-append (only_if (g k) x) (passing_from g (k + 1) xs),
+  ap (λ (t : Bool). length (only_if t x)) (same k (omega arith)),
+  passing_agree f g (k + 1) xs (λ j le. same j (omega (arith, le))),
+)
+
+only_if-at_most : (test : Bool) (p : ℕ) → length (only_if test p) ≤ 1
+only_if-at_most true p = omega arith
+only_if-at_most false p = omega arith
+
+-- Two tests that agree but at one position.
+pub passing_but_one : (f g : ℕ → Bool) (at k : ℕ) (xs : List ℕ) → ((j : ℕ) → (j ≡ at → ⊥) → f j ≡ g j) → length (passing_from f k xs) ≤ length (passing_from g k xs) + 1
+passing_but_one f g at k [] same = omega arith
+passing_but_one f g at k (x ∷ xs) same = ⊎_elim
+    (λ (here : k ≡ at).
+    omega (
+      arith,
+      length-append (only_if (f k) x) (passing_from f (k + 1) xs),
+      length-append (only_if (g k) x) (passing_from g (k + 1) xs),
+      only_if-at_most (f k) x,
+      passing_agree f g (k + 1) xs (λ j le. same j (λ e. omega (arith, here, e, le))),
+    ))
+    (λ (other : k ≡ at → ⊥).
+    omega (
+      arith,
+      length-append (only_if (f k) x) (passing_from f (k + 1) xs),
+      length-append (only_if (g k) x) (passing_from g (k + 1) xs),
+      ap (λ (t : Bool). length (only_if t x)) (same k other),
+      passing_but_one f g at (k + 1) xs same,
+    ))
+    (cases_eq k at)

@@ -1,8 +1,11 @@
 -- Tables of inodes.
-use Rattle.std.proofs.Common.{◌≡◌, ◌<◌, ℕ, IsTrue, Bool, List, [], ◌∷◌, ◌++◌, length, take, append_assoc, ap, sym, ◌∙◌, subst, arith, ⊎_elim}
+use Rattle.std.proofs.Common.{◌≡◌, ◌≤◌, ◌⊎◌, ◌+◌, ◌-◌, ◌*◌, ◌/◌, ◌==◌, true, false, drop, refl, ap₂, ◌<◌, ℕ, IsTrue, Bool, List, [], ◌∷◌, ◌++◌, length, take, append_assoc, ap, sym, ◌∙◌, subst, arith, ⊎_elim}
 use Rattle.std.specs.Prelude.{slice_index, slice_set, ◌&&◌, not, nat_le, bytes_eq}
 use Rattle.std.proofs.lemmas.Bool.{cases_eq}
-use Rattle.std.proofs.lemmas.List.{take_all, length-set, get_or-set_same, get_or-set_other}
+use Rattle.std.proofs.lemmas.Bool.Decides.{nat_tests}
+use Rattle.inode_file.proofs.BlockLaws.{are_same-Decides}
+use Rattle.inode_file.proofs.PassingLaws.{passing_none, passing_but_one}
+use Rattle.std.proofs.lemmas.List.{take_all, drop-set-lt, drop-set-add, take-set-le, length-set, get_or-set_same, get_or-set_other}
 use Rattle.block_format.specs.Inode.{inode_shape}
 use Rattle.block_format.specs.declared.inode.Inode.{Inode}
 use Rattle.block_format.specs.declared.inode.Inode.TheVariants.{Unused}
@@ -11,7 +14,7 @@ use Rattle.inode_file.specs.Inodes.{InodeTable, inode_of, block_of, is_used, IsT
 use Rattle.block_tree.specs.Notes.{page_blocks}
 use Rattle.inode_file.specs.Noted.{Noted}
 use Rattle.block_tree.proofs.NoteLaws.{refs-append}
-use Rattle.inode_file.specs.Rewriting.{is_written, only_if, passing_from}
+use Rattle.inode_file.specs.Rewriting.{has_used, is_current, is_fresh, is_written, only_if, passing_from, written_blocks}
 use Rattle.inode_file.specs.Renewal.{AreRenewed, IsIndexRenewed, IsPlanned, all_written}
 use Rattle.inode_file.proofs.CountingLaws.{blocks_counted}
 use Rattle.inode_file.specs.Bits.{has_bit, HasVacant, SetsBit}
@@ -53,6 +56,48 @@ vacant_set words new inodes n inode on lt is before sets = record {
   each = λ m below. each_set (λ i x. has_bit new i ≡ (nat_le 2 i && not (is_used x))) inodes n inode lt (sets.here ∙ is) m (λ ne. sets.others m ne ∙ before.each m below);
 }
 
+-- a number of another block leaves a block as it is
+block_untouched : (inodes : List Inode) (n k : ℕ) (inode : Inode) → (k ≡ n / 64 → ⊥) → block_of (slice_set inodes n inode) k ≡ block_of inodes k
+block_untouched inodes n k inode ne = ⊎_elim below behind (lt_or_le n (64 * k))
+  where
+    lt_or_le : (a c : ℕ) → (a < c) ⊎ (c ≤ a)
+    lt_or_le a c = grind arith
+
+    below : n < 64 * k → block_of (slice_set inodes n inode) k ≡ block_of inodes k
+    below lt = ap (λ (xs : List Inode). take 64 xs) (drop-set-lt (64 * k) inodes n inode lt)
+
+    behind : 64 * k ≤ n → block_of (slice_set inodes n inode) k ≡ block_of inodes k
+    behind le =
+        let from : 64 * k + (n - 64 * k) ≡ n = omega (arith, le) in
+        let far : 64 ≤ n - 64 * k = omega (arith, le, ne) in
+        ap (λ (i : ℕ). block_of (slice_set inodes i inode) k) (sym from)
+        ∙ (ap (λ (xs : List Inode). take 64 xs) (drop-set-add (64 * k) inodes (n - 64 * k) inode) ∙ take-set-le 64 (drop (64 * k) inodes) (n - 64 * k) inode far)
+
+-- at most one inode block more is to be written
+pub written_set : (t : InodeTable) (n : ℕ) (inode : Inode) → written_blocks (record { inodes = slice_set t.inodes n inode; stored = t.stored; pointers = t.pointers; index = t.index }) ≤ written_blocks t + 1
+written_set t n inode = passing_but_one _ (is_written t) (n / 64) 0 t.pointers
+    (λ k ne. ap (λ (block : List Inode). is_fresh (slice_index t.pointers k) (block_of t.stored k) block) (block_untouched t.inodes n k inode ne))
+
+-- nothing is to be written where all inodes are as they stand
+not_fresh : (ptr : ℕ) (block : List Inode) → (ptr ≡ 0 → has_used block ≡ false) → is_fresh ptr block block ≡ false
+not_fresh ptr block hole = ⊎_elim
+    (λ (none : ptr ≡ 0). ap (λ (t : Bool). t && not (is_current ptr block block)) (hole none))
+    (λ (some : ptr ≡ 0 → ⊥). ap (λ (t : Bool). has_used block && not t) (ap₂ (λ (a b : Bool). a && b) (is_some ptr some) ((are_same-Decides block block).1 refl)) ∙ no_second (has_used block))
+    (cases_eq ptr 0)
+  where
+    is_some : (q : ℕ) → (q ≡ 0 → ⊥) → not (q == 0) ≡ true
+    is_some q ne = grind (arith, nat_tests)
+
+    no_second : (b : Bool) → (b && false) ≡ false
+    no_second true = refl
+    no_second false = refl
+
+pub written_none : (inodes : List Inode) (pointers : List ℕ) (index : ℕ) → length pointers ≡ 1024 → ((k : ℕ) → k < 1024 → slice_index pointers k ≡ 0 → has_used (block_of inodes k) ≡ false)
+    → written_blocks (record { inodes = inodes; stored = inodes; pointers = pointers; index = index }) ≡ 0
+written_none inodes pointers index many holes =
+    ap length (passing_none (is_written (record { inodes = inodes; stored = inodes; pointers = pointers; index = index })) 0 pointers
+    (λ i lt. not_fresh (slice_index pointers (0 + i)) (block_of inodes (0 + i)) (holes (0 + i) (omega (arith, lt, many)))))
+
 -- All blocks are renewed.
 pub planned : (t : InodeTable) (pointers : List ℕ) (index : ℕ) (free middle left : List ℕ) (m n o : Noted) → IsTable t
     → AreRenewed (record { inodes = t.inodes; stored = t.stored; pointers = t.pointers; index = 0 }) 1024 pointers free middle m n
@@ -71,8 +116,14 @@ planned t pointers index free middle left m n o is blocks last =
         settles = record { each = λ b. omega (arith, blocks.takes.settles.each b, last.takes.settles.each b, refs-append b (t.index ∷ []) t.pointers, refs-append b (index ∷ []) pointers) };
         grows = λ read stand. blocks.takes.grows read (last.takes.grows read stand);
       };
+      settled = written_none t.inodes pointers index blocks.many
+          (λ k lt none. used_or_not (has_used (block_of t.inodes k)) (λ used. let some = blocks.some k lt used in omega (arith, some, none)));
       count = blocks_counted t.inodes pointers is.inodes blocks.many blocks.dropped blocks.some;
       dropped = blocks.dropped;
       kept = blocks.kept;
       kept_index = last.kept;
     }
+  where
+    used_or_not : (b : Bool) → (b ≡ true → ⊥) → b ≡ false
+    used_or_not true unused = absurd (unused refl)
+    used_or_not false unused = refl

@@ -5,7 +5,7 @@ use Rattle.block_tree.specs.Tree.{Blocks, index_at, nonzero}
 use Rattle.block_tree.specs.Notes.{Stand, page_blocks}
 use Rattle.inode_file.specs.Noted.{Noted, Settles}
 use Rattle.inode_file.specs.Inodes.{InodeTable, LeadsTo, IsTable, Stands, block_of}
-use Rattle.inode_file.specs.Rewriting.{has_used, is_current, is_fresh, has_nodes, is_unchanged, is_written, only_if, passing_from, written_in_order}
+use Rattle.inode_file.specs.Rewriting.{has_used, is_current, is_fresh, has_nodes, is_unchanged, is_written, only_if, passing_from, written_blocks, written_in_order}
 use Rattle.inode_file.specs.Counting.{used_positions}
 
 -- These blocks are taken from the free ones, for pages and as added pointers, and the pointers of before become those of after.
@@ -51,6 +51,7 @@ pub record IsPlanned (t new : InodeTable) (free left : List ℕ) (m n : Noted) :
   pub table : IsTable new
   pub stands : (after : Blocks) → Stand n.pages after → Stands after t → Stands after new
   pub takes : Takes (written_in_order t new) (t.index ∷ t.pointers) (new.index ∷ new.pointers) free left m n
+  pub settled : written_blocks new ≡ 0
   pub count : length (nonzero new.pointers) ≡ used_positions t.inodes
   pub dropped : (k : ℕ) → k < 1024 → has_nodes t k ≡ false → slice_index new.pointers k ≡ 0
   pub kept : (k : ℕ) → k < 1024 → has_nodes t k ≡ true → is_unchanged t k ≡ true → slice_index new.pointers k ≡ slice_index t.pointers k

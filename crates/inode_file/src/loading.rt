@@ -1,5 +1,5 @@
 //! Reads the inode index and the inode blocks.
-ghost use Rattle.std.specs.Prelude.{◌≡◌, ◌<◌, ◌≤◌, ℕ, true, All, IfOk, OnOk, IsTrue, length, slice_index};
+ghost use Rattle.std.specs.Prelude.{◌≡◌, ◌<◌, ◌≤◌, ℕ, true, false, All, IfOk, OnOk, IsTrue, length, slice_index};
 ghost use Rattle.vol_numbers.specs.Geometry.{layout_of};
 ghost use Rattle.disk_model.specs.Past.{Adds};
 ghost use Rattle.block_format.specs.Index.{IsPointer, IsInArea};
@@ -7,6 +7,7 @@ ghost use Rattle.place_words.specs.Different.{is_among};
 ghost use Rattle.block_tree.specs.Tree.{blocks_in, index_at};
 ghost use Rattle.block_tree.specs.Causes.{HasTreeCause};
 ghost use Rattle.inode_file.specs.Inodes.{inode_of, block_of, LeadsTo};
+ghost use Rattle.inode_file.specs.Rewriting.{has_used};
 ghost use Rattle.inode_file.specs.Loading.{IsWhole, IsLoadDamage};
 
 use crate::inode_block::{inodes_in, no_inodes};
@@ -55,6 +56,7 @@ fn read_inode_block<D: Disk>(
     requires at { IsPointer (layout_of g.now) at }
     ensures leads { IfOk result (λ inodes. IsTrue D.tells → LeadsTo (blocks_in (D.state disk.old).contents) at inodes) }
     ensures whole { IfOk result (λ inodes. (j : ℕ) → IsWhole (layout_of g.now) (inode_of inodes j)) }
+    ensures hole { IfOk result (λ inodes. at ≡ 0 → has_used inodes ≡ false) }
     ensures damaged { (index : ℕ) → (IsTrue D.tells → is_among (index_at (blocks_in (D.state disk.old).contents) index) at ≡ true)
         → IsLoadDamage (layout_of g.now) D.tells (blocks_in (D.state disk.new).contents) index (D.given disk.old) (D.given disk.new) result }
     ensures counted { OnOk result ((D.given disk.old).count ≤ (D.given disk.new).count) }
@@ -88,6 +90,7 @@ pub(crate) fn read_inodes<D: Disk>(
     ensures many { IfOk result (λ inodes. length inodes.items ≡ 65536) }
     ensures leads { IfOk result (λ inodes. IsTrue D.tells → (k : ℕ) → k < 1024 → LeadsTo (blocks_in (D.state disk.old).contents) (slice_index pointers.now.ptrs k) (block_of inodes.items k)) }
     ensures whole { IfOk result (λ inodes. (n : ℕ) → IsWhole (layout_of g.now) (inode_of inodes.items n)) }
+    ensures holes { IfOk result (λ inodes. (k : ℕ) → k < 1024 → slice_index pointers.now.ptrs k ≡ 0 → has_used (block_of inodes.items k) ≡ false) }
     ensures damaged { (index : ℕ) → (IsTrue D.tells → index_at (blocks_in (D.state disk.old).contents) index ≡ pointers.now.ptrs)
         → IsLoadDamage (layout_of g.now) D.tells (blocks_in (D.state disk.new).contents) index (D.given disk.old) (D.given disk.new) result }
     ensures counted { OnOk result ((D.given disk.old).count ≤ (D.given disk.new).count) }

@@ -72,6 +72,7 @@ impl InodeFile {
         ensures stored { IfOk result (λ t. IsTrue D.tells → Stands (blocks_in (D.state disk.old).contents) t) }
         ensures index { IfOk result (λ t. t.index ≡ index) }
         ensures unchanged { IfOk result (λ t. t.inodes ≡ t.stored) }
+        ensures none_changed { IfOk result (λ t. written_blocks t ≡ 0) }
         ensures within { IfOk result (IsWithin (layout_of g.now)) }
         ensures whole { IfOk result IsTable }
         ensures damaged { IsLoadDamage (layout_of g.now) D.tells (blocks_in (D.state disk.new).contents) index (D.given disk.old) (D.given disk.new) result }
@@ -125,6 +126,8 @@ impl InodeFile {
         ensures put { inode_of self.new.inodes n ≡ inode }
         ensures others { (m : ℕ) → m ≢ n → inode_of self.new.inodes m ≡ inode_of self.old.inodes m }
         ensures rest { self.new ≡ record self.old { inodes = self.new.inodes } }
+        // At most one inode block more is to be written.
+        ensures changed { written_blocks self.new ≤ written_blocks self.old + 1 }
         ensures whole { IsTable self.new }
     {
         self.inodes[n as usize] = inode;
@@ -160,6 +163,7 @@ impl InodeFile {
         ensures stored { IfOk result (λ w. (after : Blocks) → Stand w.pages after → Stands after self.old → Stands after self.new) }
         ensures inodes { OnOk result (self.new.inodes ≡ self.old.inodes) }
         ensures now { OnOk result (self.new.stored ≡ self.old.inodes) }
+        ensures settled { OnOk result (written_blocks self.new ≡ 0) }
         ensures root { IfOk result (λ w. w.root ≡ record { height = 1; ptr = self.new.index }) }
         ensures whole { OnOk result (IsTable self.new) }
         ensures pointers { IfOk result (λ w. (b : ℕ) → times b (table_pointers self.old) + times b w.added ≡ times b (table_pointers self.new) + times b w.dropped) }

@@ -8,6 +8,7 @@ use Rattle.place_words.specs.Different.{is_among}
 use Rattle.block_tree.specs.Tree.{blocks_in, index_at}
 use Rattle.block_tree.proofs.EntryLaws.{block_read}
 use Rattle.inode_file.specs.Inodes.{inode_of}
+use Rattle.inode_file.specs.Rewriting.{has_used}
 use Rattle.inode_file.specs.Loading.{IsNoInodeBlock, IsWhole}
 use Rattle.inode_file.proofs.BlockLaws.{leads_nowhere, leads_there, unused_in, unused_is_whole}
 use Rattle.inode_file.proofs.loading.read_inode_block.Goals as goal
@@ -38,3 +39,9 @@ returns-in-None-clause-damaged g c index among =
           ap (λ (s : State). blocks_in s.contents c.args.at) (c.in_default.ensures.same tells)
           ∙ (block_read (g.D.Disk.state c.args.disk.now).contents c.args.at c.read_block.new.into (c.in_default.ensures.read tells) ∙ ap (λ (b : Block). b.bytes) (sym given.bytes));
     }
+
+pub returns-then-at-eq0-clause-hole : goal.returns-then-at-eq0-clause-hole
+returns-then-at-eq0-clause-hole g c is = ap has_used c.no_inodes.ensures
+
+pub returns-in-Some-clause-hole : goal.returns-in-Some-clause-hole
+returns-in-Some-clause-hole g c is = absurd (c.if-at-eq0.false is)

@@ -1,4 +1,4 @@
-use Rattle.std.proofs.Common.{◌≡◌, ◌∙◌, ◌++◌, ℕ, List, ap, sym, subst, arith, length, length-append}
+use Rattle.std.proofs.Common.{◌≡◌, false, ◌∙◌, ◌++◌, ℕ, List, ap, sym, subst, arith, length, length-append}
 use Rattle.std.specs.Prelude.{slice_index}
 use Rattle.vol_numbers.specs.Geometry.{layout_of}
 use Rattle.disk_model.specs.Disk.{State}
@@ -7,8 +7,9 @@ use Rattle.block_format.specs.declared.inode.Inode.{Inode}
 use Rattle.place_words.specs.Different.{is_among}
 use Rattle.block_tree.specs.Tree.{blocks_in, index_at}
 use Rattle.inode_file.specs.Inodes.{inode_of, block_of, LeadsTo}
+use Rattle.inode_file.specs.Rewriting.{has_used}
 use Rattle.inode_file.specs.Loading.{IsWhole}
-use Rattle.inode_file.proofs.LoadLaws.{damage_passed, among_at, leads_more, each_more}
+use Rattle.inode_file.proofs.LoadLaws.{damage_passed, among_at, blocks_more, each_more}
 use Rattle.inode_file.proofs.loading.read_inodes.Goals as goal
 
 pub returns-in_err-block-clause-damaged : goal.returns-in_err-block-clause-damaged
@@ -29,8 +30,11 @@ loop-k-preserved g c =
       many = ap length items ∙ omega (arith, length-append c.loop-k.inodes.items block, inv.many, full);
       leads = λ tells j lt.
           subst (λ (xs : List Inode). LeadsTo (blocks_in (g.D.Disk.state c.args.disk.now).contents) (slice_index c.args.pointers.now.ptrs j) (block_of xs j)) (sym items)
-          (leads_more (blocks_in (g.D.Disk.state c.args.disk.now).contents) c.args.pointers.now.ptrs c.loop-k.inodes.items block c.loop-k.k inv.many full (inv.leads tells)
+          (blocks_more (λ i b. LeadsTo (blocks_in (g.D.Disk.state c.args.disk.now).contents) (slice_index c.args.pointers.now.ptrs i) b) c.loop-k.inodes.items block c.loop-k.k inv.many full (inv.leads tells)
           (subst (λ (s : State). LeadsTo (blocks_in s.contents) (slice_index c.args.pointers.now.ptrs c.loop-k.k) block) (inv.same tells) (c.in_ok-block.ensures.leads tells)) j lt);
+      holes = λ j lt hole.
+          subst (λ (xs : List Inode). has_used (block_of xs j) ≡ false) (sym items)
+          (blocks_more (λ i b. slice_index c.args.pointers.now.ptrs i ≡ 0 → has_used b ≡ false) c.loop-k.inodes.items block c.loop-k.k inv.many full inv.holes c.in_ok-block.ensures.hole j lt hole);
       whole = λ n. subst (λ (xs : List Inode). IsWhole (layout_of c.args.g.now) (inode_of xs n)) (sym items)
           (each_more (IsWhole (layout_of c.args.g.now)) c.loop-k.inodes.items block inv.whole c.in_ok-block.ensures.whole n);
       same = λ tells. c.in_ok-block.ensures.same tells ∙ inv.same tells;

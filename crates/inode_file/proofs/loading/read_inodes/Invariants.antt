@@ -1,9 +1,10 @@
-use Rattle.std.proofs.Common.{◌≡◌, ◌<◌, ◌≤◌, ◌*◌, ℕ, IsTrue, length}
+use Rattle.std.proofs.Common.{◌≡◌, ◌<◌, ◌≤◌, ◌*◌, ℕ, false, IsTrue, length}
 use Rattle.std.specs.Prelude.{slice_index}
 use Rattle.vol_numbers.specs.Geometry.{layout_of}
 use Rattle.disk_model.specs.Past.{Adds}
 use Rattle.block_tree.specs.Tree.{blocks_in}
 use Rattle.inode_file.specs.Inodes.{inode_of, block_of, LeadsTo}
+use Rattle.inode_file.specs.Rewriting.{has_used}
 use Rattle.inode_file.specs.Loading.{IsWhole}
 use Rattle.inode_file.proofs.loading.read_inodes.Given as goal
 
@@ -11,6 +12,7 @@ abbrev pub invariant-loop-k : goal.invariant-loop-k
 invariant-loop-k g l = record {
   many : length l.inodes.items ≡ 64 * l.k;
   leads : IsTrue g.D.Disk.tells → (j : ℕ) → j < l.k → LeadsTo (blocks_in (g.D.Disk.state l.fn.disk).contents) (slice_index l.pointers.ptrs j) (block_of l.inodes.items j);
+  holes : (j : ℕ) → j < l.k → slice_index l.pointers.ptrs j ≡ 0 → has_used (block_of l.inodes.items j) ≡ false;
   whole : (n : ℕ) → IsWhole (layout_of l.g) (inode_of l.inodes.items n);
   same : IsTrue g.D.Disk.tells → g.D.Disk.state l.disk ≡ g.D.Disk.state l.fn.disk;
   moments : IsTrue g.D.Disk.tells → Adds (g.D.Disk.past l.fn.disk) (g.D.Disk.past l.disk) (λ s. s ≡ g.D.Disk.state l.fn.disk);

@@ -1,7 +1,9 @@
 use Rattle.std.proofs.Common.{◌∙◌, ap, arith}
 use Rattle.disk_model.specs.Disk.{State}
 use Rattle.block_tree.specs.Tree.{blocks_in, index_at}
+use Rattle.inode_file.specs.Rewriting.{written_blocks}
 use Rattle.inode_file.proofs.LoadLaws.{damage_passed}
+use Rattle.inode_file.proofs.TableLaws.{written_none}
 use Rattle.inode_file.proofs.table.InodeFile.load.Goals as goal
 
 pub returns-in_err-inodes-clause-damaged : goal.returns-in_err-inodes-clause-damaged
@@ -11,3 +13,8 @@ returns-in_err-inodes-clause-damaged g c =
 
 pub returns-clause-damaged : goal.returns-clause-damaged
 returns-clause-damaged g c = omega (arith, c.in_ok-pointers.ensures.damaged, c.in_ok-inodes.ensures.counted)
+
+pub returns-clause-none_changed : goal.returns-clause-none_changed
+returns-clause-none_changed g c =
+    let none = written_none c.in_ok-inodes.inodes.items c.in_ok-pointers.pointers.ptrs c.args.index (omega arith) c.in_ok-inodes.ensures.holes in
+    ap written_blocks c.in_ok-file.ensures ∙ none

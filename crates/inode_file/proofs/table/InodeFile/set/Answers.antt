@@ -1,6 +1,8 @@
-use Rattle.std.proofs.Common.{arith}
+use Rattle.std.proofs.Common.{◌≤◌, ◌+◌, subst, arith}
+use Rattle.std.specs.Prelude.{slice_set}
+use Rattle.inode_file.specs.Rewriting.{written_blocks}
 use Rattle.inode_file.specs.Inodes.{InodeTable}
-use Rattle.inode_file.proofs.TableLaws.{table_set, vacant_set}
+use Rattle.inode_file.proofs.TableLaws.{table_set, vacant_set, written_set}
 use Rattle.inode_file.proofs.table.InodeFile.set.Goals as goal
 
 pub invariant_of-self : goal.invariant_of-self
@@ -16,3 +18,10 @@ returns-clause-whole c =
     let s = c.self.inside in
     let t : InodeTable = record { inodes = s.inodes.items; stored = s.stored.items; pointers = s.pointers.ptrs; index = s.index } in
     table_set t c.args.n c.args.inode (omega arith) c.requires.shape c.self.invariant.0
+
+pub returns-clause-changed : goal.returns-clause-changed
+returns-clause-changed c =
+    let s = c.self.inside in
+    let t : InodeTable = record { inodes = s.inodes.items; stored = s.stored.items; pointers = s.pointers.ptrs; index = s.index } in
+    subst (λ (old : InodeTable). written_blocks (record { inodes = slice_set s.inodes.items c.args.n c.args.inode; stored = s.stored.items; pointers = s.pointers.ptrs; index = s.index }) ≤ written_blocks old + 1) c.self.view_is
+    (written_set t c.args.n c.args.inode)
