@@ -18,7 +18,7 @@ use Rattle.block_tree.specs.Opened.{Opens, PartsStay, PartsFull, FitsHeight, Cha
 use Rattle.block_tree.specs.declared.root.TreeRoot.{TreeRoot}
 use Rattle.block_tree.proofs.EntryLaws.{same_list, some_nonzero}
 use Rattle.block_tree.proofs.NoteLaws.{refs-set, refs-append, times-append, settles_beside, settles_none}
-use Rattle.block_tree.proofs.LeafLaws.{settles_then, refs-level, level_like, zeros_lead_nowhere, nonzero-cons}
+use Rattle.block_tree.proofs.LeafLaws.{refs_front, settles_then, refs-level, level_like, zeros_lead_nowhere, nonzero-cons}
 use Rattle.block_tree.proofs.OpeningLaws.{no_leaf, block_at_leaf}
 
 -- a place at or past all changes
@@ -143,6 +143,7 @@ module _ {read : Blocks} {root : TreeRoot} {changes : List Change} {cut top : �
     top_is = opened.top_is;
     full = full_at edited;
     indexes = λ b. omega (arith, opened.indexes b, edited.indexes b, refs-set b leaves 0 new (omega (arith, long)), rest.indexes b);
+    pages = λ b. omega (arith, edited.pages b, rest.pages b, ap (λ (x : ℕ). refs b (x ∷ [])) first_is, refs_front b rewritten end);
   }
 
   -- where the leaf 0 gives way, the pages of before are at most old index blocks and pages
@@ -150,26 +151,31 @@ module _ {read : Blocks} {root : TreeRoot} {changes : List Change} {cut top : �
   block_indexes none b =
       omega (arith, opened.indexes b, refs-set b leaves 0 new (omega (arith, long)), rest.indexes b, ap (λ (x : ℕ). refs b (x ∷ [])) none)
 
+  none_left : IsTrue over → new ≡ 0 → ((j : ℕ) → 1 ≤ j → j < 1024 → IsEmptied changes cut old j) → nonzero rewritten ≡ []
+  none_left is zero_is emptied = zeros_lead_nowhere rewritten (λ j lt. all_zero j (omega (arith, lt, rest.long)))
+    where
+      all_zero : (j : ℕ) → j < 1024 → slice_index rewritten j ≡ 0
+      all_zero zero lt = first_is ∙ zero_is
+      all_zero (suc j) lt = none_at is (suc j) (omega arith) lt (emptied (suc j) (omega arith) lt)
+
+  pub block_pages : IsTrue over → new ≡ 0 → ((j : ℕ) → 1 ≤ j → j < 1024 → IsEmptied changes cut old j) → (b : ℕ) → paged b o ≤ paged b n
+  block_pages is zero_is emptied b = omega (arith, rest.pages b, refs_front b rewritten end, ap (λ (v : List ℕ). times b v) (none_left is zero_is emptied))
+
   -- where the leaf 0 gives way to its pointers
   pub block_settles : {m p : Noted} (data_ : List ℕ) → IsTrue over → new ≡ 0 → Settles (slice_index leaves 0 ∷ first) data_ m n → ((j : ℕ) → 1 ≤ j → j < 1024 → IsEmptied changes cut old j)
       → Settles (top ∷ []) [] o p → (after : Blocks) → Stand o.pages after → PartsStay read root after → Settles (all_pointers read root) data_ m p
   block_settles {m = m} data_ is zero_is s emptied removed after stand stays =
       let begun : Settles (slice_index leaves 0 ∷ first) (new ∷ data_) m n = record { each = λ a. omega (arith, s.each a, refs-append a (new ∷ []) data_, ap (λ (t : ℕ). refs a (t ∷ [])) zero_is) } in
-      let none_left : nonzero rewritten ≡ [] = zeros_lead_nowhere rewritten (λ j lt. all_zero j (omega (arith, lt, rest.long))) in
       record {
         each = λ b. omega (
           arith,
           first_settles new data_ opened (omega (arith, long)) after stays begun b,
           ap (λ (t : ℕ). refs b (index_at after t)) zero_is,
           (rest.settles after stand (rest_stay after stays)).each b,
-          level_like b after rewritten [] none_left,
+          level_like b after rewritten [] (none_left is zero_is emptied),
           removed.each b,
         );
       }
-    where
-      all_zero : (j : ℕ) → j < 1024 → slice_index rewritten j ≡ 0
-      all_zero zero lt = first_is ∙ zero_is
-      all_zero (suc j) lt = none_at is (suc j) (omega arith) lt (emptied (suc j) (omega arith) lt)
 
 -- ---- the tree
 
@@ -229,6 +235,12 @@ module _ {read : Blocks} {root : TreeRoot} {changes : List Change} {cut top : �
               has.indexes b,
               ap (λ (v : List ℕ). times b v) (nonzero_first leaves (omega (arith, long)) (λ j some lt. has.none is j some (omega (arith, lt, long)) (emptied j some (omega (arith, lt, long))))),
             );
+        pages = λ after stand stays b.
+            omega (
+              arith,
+              has.pages b,
+              ap (λ (v : List ℕ). times b v) (nonzero_first leaves (omega (arith, long)) (λ j some lt. has.none is j some (omega (arith, lt, long)) (emptied j some (omega (arith, lt, long))))),
+            );
       }
 
   -- the leaves under a top index
@@ -267,13 +279,21 @@ module _ {read : Blocks} {root : TreeRoot} {changes : List Change} {cut top : �
           refs-append b (new ∷ []) (index_at after new),
           ap (λ (v : List ℕ). times b v) (renewed.entries after stand (has.top_is after stays)).some,
         );
+    pages = λ after stand stays b.
+        omega (
+          arith,
+          has.pages b,
+          renewed.pages b,
+          refs-append b (new ∷ []) (index_at after new),
+          ap (λ (v : List ℕ). times b v) (renewed.entries after stand (has.top_is after stays)).some,
+        );
   }
 
 -- the block of place 0 alone
 pub tree_block : {read : Blocks} {root : TreeRoot} {changes : List Change} {cut : ℕ} {ptrs : List ℕ} {m n : Noted} → length ptrs ≡ 1024 → IsLeafAfter changes cut (block_at read root) 0 ptrs
     → FitsHeight read root cut 0 → ChangesFit 0 changes → ((after : Blocks) → Stand n.pages after → PartsStay read root after → Settles (all_pointers read root) ptrs m n)
-    → ((b : ℕ) → paged b m ≤ times b (tree_indexes read root) + paged b n) → IsTreeRewritten read root changes cut (record { height = 0; ptr = slice_index ptrs 0 }) m n
-tree_block {read = read} {root = root} {changes = changes} {cut = cut} {ptrs = ptrs} long places fits all settles indexes = record {
+    → ((b : ℕ) → paged b m ≤ times b (tree_indexes read root) + paged b n) → ((b : ℕ) → paged b n ≤ paged b m) → IsTreeRewritten read root changes cut (record { height = 0; ptr = slice_index ptrs 0 }) m n
+tree_block {read = read} {root = root} {changes = changes} {cut = cut} {ptrs = ptrs} long places fits all settles indexes pages = record {
   kept = λ after stand stays high. absurd (omega (arith, high));
   kept_top = λ after stand stays two high. absurd (omega (arith, high));
   places = λ after stand stays. by_leaves after new at (λ j lt i small. ⊎_elim
@@ -286,6 +306,7 @@ tree_block {read = read} {root = root} {changes = changes} {cut = cut} {ptrs = p
   };
   full = λ after stand stays full. tt;
   indexes = λ after stand stays b. omega (arith, indexes b);
+  pages = λ after stand stays b. omega (arith, pages b);
 }
   where
     new : TreeRoot
@@ -311,4 +332,5 @@ tree_like {read = read} {root = root} ys {cut = cut} like made = record {
   settles = made.settles;
   full = made.full;
   indexes = made.indexes;
+  pages = made.pages;
 }

@@ -1,20 +1,17 @@
 -- A plan from what was noted.
-use Rattle.std.proofs.Common.{◌≡◌, ◌≤◌, ℕ, ◌+◌, Bool, true, false, List, [], ◌∷◌, ◌++◌, refl, ap, sym, subst, arith}
+use Rattle.std.proofs.Common.{◌≡◌, ℕ, Bool, true, false, List, [], ◌∷◌, ◌++◌, refl, ap, sym, subst}
 use Rattle.std.specs.Prelude.{All, ◌||◌, nat_eq}
 use Rattle.std.proofs.lemmas.List.Elements.{All-nil}
 use Rattle.vol_numbers.specs.Layout.{Layout}
 use Rattle.vol_numbers.specs.declared.runs.Change.{Change}
 use Rattle.block_format.specs.Index.{IsPointer}
-use Rattle.place_words.specs.Different.{times, is_among}
+use Rattle.place_words.specs.Different.{is_among}
 use Rattle.block_tree.specs.Tree.{Blocks}
-use Rattle.block_tree.specs.Edit.{portion}
-use Rattle.block_tree.specs.Notes.{Noted, Takes, Uses, AreSound, no_notes, notes_in, page_blocks, change_blocks}
+use Rattle.block_tree.specs.Notes.{Noted, Takes, Uses, AreSound, no_notes, notes_in, page_blocks}
 use Rattle.block_tree.specs.Pages.{IsIndexPage}
 use Rattle.block_tree.specs.Opened.{IsTreeRewritten}
 use Rattle.block_tree.specs.declared.plan.Rewritten.{Rewritten}
 use Rattle.block_tree.specs.declared.root.TreeRoot.{TreeRoot}
-use Rattle.block_tree.proofs.EditLaws.{changed_sorted}
-use Rattle.block_tree.proofs.ClosingLaws.{tree_like}
 
 abbrev plan_of : TreeRoot → Noted → Rewritten
 plan_of root n = record { root = root; pages = n.pages; added = n.added; dropped = n.dropped }

@@ -45,6 +45,7 @@ module _ (old : ℕ) (was ptrs : List ℕ) (m : Noted) where
     kept = λ is same some. absurd (some none);
     none = λ is. refl;
     indexes = λ b. omega arith;
+    pages = λ b. omega arith;
     uses = uses_none [] m (record m { dropped = m.dropped ++ nonzero (old ∷ []) }) refl refl;
     sound = λ g all is sound. (sound_same g m (record m { dropped = m.dropped ++ nonzero (old ∷ []) }) refl refl sound, inl refl);
   }
@@ -59,6 +60,7 @@ module _ (old : ℕ) (was ptrs : List ℕ) (m : Noted) where
     kept = λ there is some. (refl, refl);
     none = λ none. absurd (some none);
     indexes = λ b. omega arith;
+    pages = λ b. omega arith;
     uses = uses_none [] m m refl refl;
     sound = λ g all is sound. (sound, is);
   }
@@ -78,6 +80,7 @@ module _ (old : ℕ) (was ptrs : List ℕ) (m : Noted) where
         kept = λ is same is_some. absurd (other is same);
         none = λ is. absurd (not_none is);
         indexes = λ b. omega (arith, refs-one b at, paged_more b m.pages page);
+        pages = λ b. omega (arith, paged_more b m.pages page, ap (λ (xs : List ℕ). times b xs) (nonzero_is at some));
         uses = uses_page m page left (m.dropped ++ nonzero (old ∷ []));
         sound = λ g all is sound. sound_page g m page ptrs left (m.added ++ at ∷ []) (m.dropped ++ nonzero (old ∷ [])) e long spelled all sound;
       }

@@ -24,6 +24,8 @@ pub record IsRenewed (old : ℕ) (was ptrs : List ℕ) (new : ℕ) (m n : Noted)
   pub none : nonzero ptrs ≡ [] → new ≡ 0
   -- the new block is the old one or a page's
   pub indexes : (b : ℕ) → refs b (new ∷ []) + paged b m ≤ refs b (old ∷ []) + paged b n
+  -- a new page is the new block's
+  pub pages : (b : ℕ) → paged b n ≤ paged b m + refs b (new ∷ [])
   pub uses : Uses [] m n
   -- the page that is new is in the grammar
   pub sound : (g : Layout) → All (IsPointer g) ptrs → IsPointer g old → AreSound g m → AreSound g n × IsPointer g new

@@ -67,6 +67,9 @@ pub fn rewrite<D: Disk>(
     // Each of its index blocks is one of the old tree or a page's.
     ensures indexes { IfOk result (λ w. IsTrue D.tells → (after : Blocks) → Stand w.pages after → Stays (blocks_in (D.state disk.old).contents) root.now after
         → (b : ℕ) → times b (tree_indexes after w.root) ≤ times b (tree_indexes (blocks_in (D.state disk.old).contents) root.now) + times b (page_blocks w.pages)) }
+    // Each page is one of its index blocks.
+    ensures pages { IfOk result (λ w. IsTrue D.tells → (after : Blocks) → Stand w.pages after → Stays (blocks_in (D.state disk.old).contents) root.now after
+        → (b : ℕ) → times b (page_blocks w.pages) ≤ times b (tree_indexes after w.root)) }
     // A leaf whose places have the blocks that they had keeps its block, where a leaf is left,
     ensures kept { IfOk result (λ w. IsTrue D.tells → (after : Blocks) → Stand w.pages after → Stays (blocks_in (D.state disk.old).contents) root.now after → 1 ≤ w.root.height → (k : ℕ) → k < 1024
         → KeepsLeaf changes.now cut_to (block_at (blocks_in (D.state disk.old).contents) root.now) k (leaf_at (blocks_in (D.state disk.old).contents) root.now k) (leaf_at after w.root k)) }

@@ -1,4 +1,4 @@
-use Rattle.std.proofs.Common.{◌≤◌, ◌≡◌, ◌<◌, ◌∙◌, ℕ, List, length, ap, subst, sym, arith, ◌+◌}
+use Rattle.std.proofs.Common.{◌≤◌, ◌≡◌, ◌<◌, ◌∙◌, ℕ, List, ap, arith, ◌+◌}
 use Rattle.std.proofs.lemmas.List.Elements.{All-same}
 use Rattle.std.proofs.lemmas.List.Sorted.{All-permutation}
 use Rattle.vol_numbers.specs.Geometry.{layout_of}
@@ -8,8 +8,7 @@ use Rattle.block_format.specs.Inode.{blocks_of, height_of}
 use Rattle.place_words.specs.Different.{times, is_among}
 use Rattle.block_tree.specs.Tree.{blocks_in}
 use Rattle.block_tree.specs.Edit.{portion}
-use Rattle.block_tree.specs.Notes.{Noted, page_blocks, change_blocks, no_notes}
-use Rattle.block_tree.specs.declared.plan.Rewritten.{Rewritten}
+use Rattle.block_tree.specs.Notes.{page_blocks, change_blocks}
 use Rattle.block_tree.proofs.PartLaws.{parts_stay, parts_full, whole_full, pointers_listed, tree_counted}
 use Rattle.block_tree.proofs.PortionLaws.{same_leaves, same_blocks}
 use Rattle.block_tree.proofs.UseLaws.{among_either}
@@ -80,6 +79,15 @@ returns-clause-indexes g c tells after stand stays b =
     let w = c.in_ok-made.made in
     let made = tree_like c.args.changes.now (changed_sorted c.as_slice.result.now c.args.changes.now same) (c.in_ok-made.ensures.rewritten tells) in
     omega (arith, made.indexes after stand (parts_stay read after root.height root.ptr stays) b)
+
+pub returns-clause-pages : goal.returns-clause-pages
+returns-clause-pages g c tells after stand stays b =
+    let read = blocks_in (g.D.Disk.state c.args.disk.now).contents in
+    let same = λ (k : ℕ). ap (λ (cs : List Change). portion k cs) c.as_slice.ensures.value ∙ c.in_ok-sorted.ensures.portions k in
+    let root = c.args.root.now in
+    let w = c.in_ok-made.made in
+    let made = tree_like c.args.changes.now (changed_sorted c.as_slice.result.now c.args.changes.now same) (c.in_ok-made.ensures.rewritten tells) in
+    omega (arith, made.pages after stand (parts_stay read after root.height root.ptr stays) b)
 
 pub returns-clause-kept : goal.returns-clause-kept
 returns-clause-kept g c tells after stand stays high k lt =

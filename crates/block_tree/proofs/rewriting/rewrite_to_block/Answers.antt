@@ -17,7 +17,7 @@ use Rattle.block_tree.proofs.RoomLaws.{rest_room}
 use Rattle.block_tree.proofs.LeafLaws.{takes_like, stand_same}
 use Rattle.block_tree.proofs.UseLaws.{uses_none, uses_then, uses_all}
 use Rattle.block_tree.proofs.SoundLaws.{sound_same}
-use Rattle.block_tree.proofs.ClosingLaws.{block_settles, block_indexes, tree_block, settles_remove, emptied_leaf}
+use Rattle.block_tree.proofs.ClosingLaws.{block_settles, block_indexes, block_pages, tree_block, settles_remove, emptied_leaf}
 use Rattle.block_tree.proofs.rewriting.rewrite_to_block.Goals as goal
 
 pub rewrite_rest-requires-clause-leaves : goal.rewrite_rest-requires-clause-leaves
@@ -61,6 +61,14 @@ returns-clause-rewritten g c tells =
       arith,
       block_indexes opened (omega arith) 0 c.in_ok-rewrite_rest.ensures.takes over end c.rewrite_rest.new.leaves.ptrs rest
           (λ ne. ((c.end_of.ensures.low ne).0, emptied)) c.end_of.ensures.at_most refl b,
+      ap (λ (ps : List Page). times b (page_blocks ps)) pages,
+      ap (λ (ps : List Page). times b (page_blocks ps)) c.in_ok-ptr.ensures.pages,
+    ))
+    (λ b.
+    omega (
+      arith,
+      block_pages opened (omega arith) 0 c.in_ok-rewrite_rest.ensures.takes over end c.rewrite_rest.new.leaves.ptrs rest
+          (λ ne. ((c.end_of.ensures.low ne).0, emptied)) c.end_of.ensures.at_most is_over refl emptied b,
       ap (λ (ps : List Page). times b (page_blocks ps)) pages,
       ap (λ (ps : List Page). times b (page_blocks ps)) c.in_ok-ptr.ensures.pages,
     )) in
