@@ -97,12 +97,15 @@ no_next command good =
     omega (arith, kind, kind_at_most command)
 
 pub at_seventh_kind : Finds seventh_kind (BadLog 0)
-at_seventh_kind = inr (none_early, record {
-  before = nothing_logged seventh_kind none_early;
-  count = no_records seventh_kind none_early;
-  good = accepted seventh_kind none_early;
-  bad = inl (omega (arith, one_record), no_next);
-})
+at_seventh_kind = inr (
+  none_early,
+  record {
+    before = nothing_logged seventh_kind none_early;
+    count = no_records seventh_kind none_early;
+    good = accepted seventh_kind none_early;
+    bad = inl (omega (arith, one_record), no_next);
+  },
+)
 
 -- ---- a block that no record takes
 
@@ -120,9 +123,12 @@ one_block = refl
 
 pub at_spare_block : Finds spare_block (BadLog 0)
 unfolding nothing_logged
-at_spare_block = inr (none_before, record {
-  before = nothing_logged spare_block none_before;
-  count = no_records spare_block none_before;
-  good = accepted spare_block none_before;
-  bad = inr (sym no_record, omega (arith, one_block));
-})
+at_spare_block = inr (
+  none_before,
+  record {
+    before = nothing_logged spare_block none_before;
+    count = no_records spare_block none_before;
+    good = accepted spare_block none_before;
+    bad = inr (sym no_record, omega (arith, one_block));
+  },
+)
