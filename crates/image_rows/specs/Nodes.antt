@@ -5,7 +5,7 @@ use Rattle.block_format.specs.declared.inode.Inode.TheVariants.{Unused, File, Di
 use Rattle.image_model.specs.Finds.{early_finding}
 use Rattle.block_format.specs.declared.slot.Slot.TheVariants as slots
 use Rattle.image_model.specs.declared.finding.Finding.TheVariants.{MixedBlock, BadTail, BadDirectory, NotATree}
-use Rattle.image_rows.specs.Images.{index_block, inode_block, directory_block, root, inodes, entries, with_blocks, with_byte}
+use Rattle.image_rows.specs.Images.{index_block, inode_block, directory_block, inodes, entries, with_blocks, with_byte}
 
 -- a place of the first file has the block of the root directory
 abbrev pub directory_shared : List Block

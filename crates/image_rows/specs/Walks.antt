@@ -5,7 +5,7 @@ use Rattle.block_format.specs.Root.{root_bytes}
 use Rattle.block_format.specs.declared.inode.Inode.TheVariants.{Unused, File, Directory}
 use Rattle.image_model.specs.Finds.{early_finding}
 use Rattle.image_model.specs.declared.finding.Finding.TheVariants.{BadPointer, BadInode}
-use Rattle.image_rows.specs.Images.{index_block, inode_block, root, inodes, entries, counts, with_blocks, with_byte}
+use Rattle.image_rows.specs.Images.{index_block, inode_block, root, inodes, with_blocks, with_byte}
 
 -- there is no inode index
 abbrev pub no_index : List Block
