@@ -1,9 +1,10 @@
 -- Laws of what an image stands for.
-use Rattle.std.specs.Prelude.{◌≡◌, ◌<◌, ◌≤◌, ℕ, ◌+◌, ◌*◌, List, [], ◌∷◌, ◌++◌, get_or, ◌-◌, true}
+use Rattle.std.specs.Prelude.{false, ◌≡◌, ◌<◌, ◌≤◌, ℕ, ◌+◌, ◌*◌, List, [], ◌∷◌, ◌++◌, get_or, ◌-◌, true}
 use Rattle.vol_numbers.specs.Layout.{Layout, count_blocks, log_start}
 use Rattle.block_format.specs.Homes.{home_bit}
 use Rattle.vol_numbers.specs.declared.block.Block.{Block}
-use Rattle.disk_model.specs.Disk.{State, IsImage}
+use Rattle.disk_model.specs.Disk.{State, IsImage, is_among}
+use Rattle.root_switch.specs.Switch.{HasOldRoot}
 use Rattle.root_switch.specs.Current.{root_of_image, FitsImage}
 use Rattle.tree_model.specs.Order.{IsOrdered}
 use Rattle.tree_model.specs.Path.{Path}
@@ -51,8 +52,10 @@ pub record AcceptedMore : Type 0 where
       → ((step (mounted s).tree command).0 ≡ reply.Done) × (pending s.records + need command ≤ free)
   pub front : (free : ℕ) (s : Stored) (command : Command) → Accepts free s.tree 0 (s.records ++ command ∷ []) → Accepts free s.tree 0 s.records
 
--- What a point writes isn't live: blocks of the area with count 0, and the homes that the root doesn't name. (No root slot is among the live blocks.)
+-- What a point writes isn't live: the selector and the slots, blocks of the area with count 0, the homes that the root doesn't name, and what of
+-- the log and the spare blocks is behind the records.
 pub record WritesNoLive (image : List Block) : Type 0 where
+  pub slots : (b : ℕ) → b < 3 → IsLive image b → ⊥
   pub free : (b : ℕ) → is_in_area (layout_in image) b ≡ true → get_or (seen image).kept b 0 ≡ 0 → IsLive image b → ⊥
   pub home : (i : ℕ) → i < count_blocks (layout_in image) → IsLive image (3 + 2 * i + (1 - home_bit (root_of_image image).homes i)) → ⊥
   pub log : (k : ℕ) → used_in image ≤ k → k < (layout_in image).log_blocks + 32 → IsLive image (log_start (layout_in image) + k) → ⊥
@@ -60,6 +63,11 @@ pub record WritesNoLive (image : List Block) : Type 0 where
 -- That is so of each image whose root fits it.
 abbrev pub NotLive : Type 0
 NotLive = (image : List Block) → FitsImage image → WritesNoLive image
+
+-- Where no live block is unsynced, an image that has the root of before stands for what the contents stand for, also in the middle of a switch.
+abbrev pub OldRootStands : Type 0
+OldRootStands = (state : State) (slot : ℕ) (image : List Block) (s : Stored) → Stands state.contents s → ((b : ℕ) → IsLive state.contents b → is_among state.unsynced b ≡ false)
+    → HasOldRoot state slot image → Stands image s
 
 -- The blocks of the area with count 0 are as many as the formula over the tree and its places says.
 abbrev pub FreeIsCounted : Type 0
