@@ -15,7 +15,7 @@ use Rattle.block_format.specs.declared.slot.Slot.TheVariants as slots
 use Rattle.block_tree.specs.Tree.{Blocks, index_at, nonzero}
 use Rattle.place_words.specs.Different.{is_among, Distinct}
 use Rattle.tree_model.specs.Path.{Path, name_eq}
-use Rattle.image_model.specs.Entries.{Entry, is_of, entry_at, leads, times_named, NamesOnce, entries_in, entries_of}
+use Rattle.image_model.proofs.Entries.{Entry, is_of, entry_at, leads, times_named, NamesOnce, entries_in, entries_of}
 use Rattle.image_model.specs.Met.{Met, index}
 use Rattle.image_model.specs.Nodes.{has_twin, is_bad_directory, is_entry_name, is_slot_spelled, number_named, names_of}
 use Rattle.image_model.specs.Spelled.{node_trees}
