@@ -6,7 +6,8 @@ use Rattle.vol_numbers.specs.declared.block.Block.{Block}
 use Rattle.root_switch.specs.Current.{root_of_image, FitsImage}
 use Rattle.block_format.specs.Homes.{home_bit}
 use Rattle.image_model.specs.Findings.{is_in_area}
-use Rattle.image_model.specs.Laws.{NotLive}
+use Rattle.image_model.specs.Laws.{NotLive, OldRootStands}
+use Rattle.image_model.proofs.ImageLaws.{kept_stands}
 use Rattle.image_model.specs.Live.{IsLive, home, logged, counted}
 use Rattle.image_model.specs.Seen.{seen}
 use Rattle.image_model.specs.Stands.{layout_in, used_in}
@@ -42,9 +43,25 @@ module _ (image : List Block) (fits : FitsImage image) where
   log_apart k le lt _ (logged j l) e = omega (arith, l, le, e)
   log_apart k le lt c (counted _ is some) e = omega (arith, in_area g c is, lt, e)
 
+  slot_apart : (b : ℕ) → b < 3 → (c : ℕ) → IsLive image c → c ≡ b → ⊥
+  slot_apart b lt _ (home i l) e = omega (arith, lt, e)
+  slot_apart b lt _ (logged i l) e = omega (arith, lt, e)
+  slot_apart b lt c (counted _ is some) e = omega (arith, in_area g c is, lt, e)
+
 pub not_live : NotLive
 not_live image fits = record {
+  slots = λ b lt live. slot_apart image fits b lt b live refl;
   free = λ b inside none live. free_apart image fits b inside none b live refl;
   home = λ i lt live. home_apart image fits i lt _ live refl;
   log = λ k le lt live. log_apart image fits k le lt _ live refl;
 }
+
+pub old_root_stands : OldRootStands
+old_root_stands state slot image s stands synced old = kept_stands state.contents image s (record {
+  as_long = old.as_long;
+  root = old.root;
+  live = λ b live. old.others b
+      (λ e. (not_live state.contents stands.fits).slots b (omega (arith, e)) live)
+      (λ e. (not_live state.contents stands.fits).slots b (omega (arith, e)) live)
+      (synced b live);
+}) stands

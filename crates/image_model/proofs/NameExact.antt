@@ -18,7 +18,7 @@ use Rattle.place_words.proofs.Counting.{distinct_count}
 use Rattle.place_words.proofs.Totals.{different_part}
 use Rattle.tree_model.specs.Path.{Path, name_eq}
 use Rattle.image_model.specs.declared.finding.Finding.TheVariants.{NotATree}
-use Rattle.image_model.specs.Entries.{Entry, is_of, entry_at, leads, times_named, entries_in, entries_of}
+use Rattle.image_model.proofs.Entries.{Entry, is_of, entry_at, leads, times_named, entries_in, entries_of}
 use Rattle.image_model.specs.Nodes.{has_twin, is_entry_name, number_named, names_of, reached_in, is_lost, or_behind, lost_finding, tree_finding}
 use Rattle.image_model.specs.Seen.{Seen, seen_from}
 use Rattle.image_model.specs.Slots.{slots_of, inode_of, number_in, number_along}

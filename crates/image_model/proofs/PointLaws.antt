@@ -11,7 +11,7 @@ use Rattle.op_log.specs.Log.{HoldsRecords, blocks_of}
 use Rattle.volume_model.specs.Machine.{Stored}
 use Rattle.volume_model.specs.Space.{free_blocks}
 use Rattle.image_model.specs.Findings.{is_in_area, free_in}
-use Rattle.image_model.specs.Laws.{AssembledStands}
+use Rattle.image_model.specs.Planning.{AssembledStands}
 use Rattle.image_model.specs.Met.{Met, index, page, content, past, empty, not_inode, metas, files, pointers_to, NoFaults, stray}
 use Rattle.image_model.specs.Point.{HasPoint, IsAssembled}
 use Rattle.image_model.specs.Seen.{seen}

@@ -36,5 +36,6 @@ abbrev pub FindsInLog : List Block → Finding → Type 0
 FindsInLog image (BadLog i) = IsBadLog image i
 FindsInLog image other = ⊥
 
+-- the finding of an image: an early one, or one of the log
 abbrev pub Finds : List Block → Finding → Type 0
 Finds image finding = (early_finding image ≡ Some finding) ⊎ ((early_finding image ≡ None) × FindsInLog image finding)

@@ -9,7 +9,7 @@ use Rattle.block_format.specs.declared.inode.Inode.{Inode}
 use Rattle.block_format.specs.declared.inode.Inode.TheVariants.{Unused, Directory}
 use Rattle.tree_model.specs.Tree.{new_tree}
 use Rattle.volume_model.specs.Machine.{Stored}
-use Rattle.image_model.specs.Planned.{CountsStand, inodes_bytes}
+use Rattle.image_model.specs.Spelled.{CountsStand, inodes_bytes}
 use Rattle.block_tree.specs.Tree.{blocks_in}
 
 -- number 1 is an empty directory
@@ -20,9 +20,11 @@ fresh_inode n = if n == 1 then Directory 0 0 0 else Unused
 abbrev pub fresh_count : Layout → ℕ → ℕ
 fresh_count g b = (if area_start g + 1 == b then 1 else 0) + (if area_start g == b then 1 else 0)
 
+-- point 0, no records, and each count block in its first home
 abbrev pub fresh_root : Layout → Root
 fresh_root g = record { layout = g; point = 0; inode_index = area_start g + 1; records = 0; log_used = 0; homes = replicate 128 0 }
 
+-- The image has such a root, counts of two blocks, and in these the inode index and the inode of the root directory.
 pub record IsFresh (g : Layout) (image : List Block) : Type 0 where
   pub has_root : HasRoot image
   pub fits : FitsImage image

@@ -1,14 +1,11 @@
 -- Laws of what an image stands for.
-use Rattle.std.specs.Prelude.{length, Some, ◌≡◌, ◌<◌, ◌≤◌, ℕ, ◌+◌, ◌*◌, ◌^◌, List, [], ◌∷◌, ◌++◌, map, get_or, false, ◌-◌, true}
-use Rattle.std.specs.List.{flat_map}
-use Rattle.std.specs.FinMap.{find}
+use Rattle.std.specs.Prelude.{false, ◌≡◌, ◌<◌, ◌≤◌, ℕ, ◌+◌, ◌*◌, List, [], ◌∷◌, ◌++◌, get_or, ◌-◌, true}
 use Rattle.vol_numbers.specs.Layout.{Layout, count_blocks, log_start}
 use Rattle.block_format.specs.Homes.{home_bit}
 use Rattle.vol_numbers.specs.declared.block.Block.{Block}
-use Rattle.disk_model.specs.Disk.{State, IsImage}
+use Rattle.disk_model.specs.Disk.{State, IsImage, is_among}
+use Rattle.root_switch.specs.Switch.{HasOldRoot}
 use Rattle.root_switch.specs.Current.{root_of_image, FitsImage}
-use Rattle.block_format.specs.declared.inode.Inode.{Inode}
-use Rattle.block_tree.specs.Tree.{Blocks, blocks_in, block_below, index_at, nonzero}
 use Rattle.tree_model.specs.Order.{IsOrdered}
 use Rattle.tree_model.specs.Path.{Path}
 use Rattle.tree_model.specs.Shape.{IsTree}
@@ -17,43 +14,31 @@ use Rattle.tree_model.specs.declared.command.Command.{Command}
 use Rattle.space_account.specs.Charge.{need, pending}
 use Rattle.tree_model.specs.Step.{step}
 use Rattle.tree_model.specs.declared.reply.Reply.TheVariants as reply
-use Rattle.volume_model.specs.Machine.{Machine, Rules, Stored}
-use Rattle.volume_model.specs.Point.{after_point}
+use Rattle.volume_model.specs.Machine.{Stored}
 use Rattle.volume_model.specs.Done.{mounted}
-use Rattle.volume_model.specs.Places.{Places, Spot, spot_cmp, InOrder}
 use Rattle.volume_model.specs.Space.{free_blocks}
 use Rattle.image_model.specs.Findings.{free_in, is_in_area}
-use Rattle.image_model.specs.Fresh.{IsFresh, fresh_inode, fresh_stored}
+use Rattle.image_model.specs.Fresh.{IsFresh, fresh_stored}
 use Rattle.image_model.specs.Holds.{HoldsTree}
-use Rattle.image_model.specs.Met.{index, metas, NoFaults}
-use Rattle.block_format.specs.declared.inode.Inode.TheVariants as inode
-use Rattle.tree_model.specs.declared.node.Content.TheVariants as content
-use Rattle.image_model.specs.Nodes.{has_tail, is_bad_directory}
-use Rattle.image_model.specs.Slots.{inode_of, number_in, slots_of}
-use Rattle.block_format.specs.declared.slot.Slot.{Slot}
-use Rattle.dir_slots.specs.Slots.{number_in as numbers_in}
-use Rattle.image_model.specs.Standing.{some_block, FileStands, DirectoryStands}
-use Rattle.image_model.specs.Plan.{IsPlanned, taken_in}
-use Rattle.place_words.specs.Different.{times}
-use Rattle.image_model.specs.Planned.{IsSpelled, CountsStand, used_from, node_trees}
-use Rattle.image_model.specs.Walk.{walk, nodes_at}
 use Rattle.image_model.specs.Live.{IsLive, KeepsLive, OpensNoLive}
 use Rattle.image_model.specs.Next.{HasNext, and_command}
-use Rattle.image_model.specs.Point.{HasPoint, IsAssembled}
-use Rattle.image_model.specs.Seen.{Seen, seen, counts_from}
-use Rattle.image_model.specs.Nodes.{has_tail, is_bad_directory}
+use Rattle.image_model.specs.Seen.{Seen, seen}
 use Rattle.image_model.specs.Sound.{IsNamed}
-use Rattle.image_model.specs.Stands.{Stands, Accepts, layout_in, node_along, node_of, spot_of, used_in}
+use Rattle.image_model.specs.Stands.{Stands, Accepts, layout_in, node_along, used_in}
 
+-- An image stands for one thing at most.
 abbrev pub OneMeaning : Type 0
 OneMeaning = (image : List Block) (s t : Stored) → Stands image s → Stands image t → s ≡ t
 
+-- An image with the same root and the same live blocks stands for the same.
 abbrev pub KeptMeaning : Type 0
 KeptMeaning = (old new : List Block) (s : Stored) → KeepsLive old new → Stands old s → Stands new s
 
+-- Where no live block is unsynced, nor the selector and the root that it names, each image stands for what the contents stand for.
 abbrev pub ImagesStand : Type 0
 ImagesStand = (state : State) (image : List Block) (s : Stored) → OpensNoLive state → IsImage state image → Stands state.contents s → Stands image s
 
+-- With a record behind the log and a root that counts it, an image stands for the same with that record more, where it is accepted.
 abbrev pub NextStands : Type 0
 NextStands = (old new : List Block) (command : Command) (s : Stored) → HasNext old new command → Stands old s
     → Accepts (free_blocks (layout_in old) s.tree s.places) s.tree 0 (s.records ++ command ∷ []) → Stands new (and_command s command)
@@ -67,29 +52,30 @@ pub record AcceptedMore : Type 0 where
       → ((step (mounted s).tree command).0 ≡ reply.Done) × (pending s.records + need command ≤ free)
   pub front : (free : ℕ) (s : Stored) (command : Command) → Accepts free s.tree 0 (s.records ++ command ∷ []) → Accepts free s.tree 0 s.records
 
+-- What a point writes isn't live: the selector and the slots, blocks of the area with count 0, the homes that the root doesn't name, and what of
+-- the log and the spare blocks is behind the records.
+pub record WritesNoLive (image : List Block) : Type 0 where
+  pub slots : (b : ℕ) → b < 3 → IsLive image b → ⊥
+  pub free : (b : ℕ) → is_in_area (layout_in image) b ≡ true → get_or (seen image).kept b 0 ≡ 0 → IsLive image b → ⊥
+  pub home : (i : ℕ) → i < count_blocks (layout_in image) → IsLive image (3 + 2 * i + (1 - home_bit (root_of_image image).homes i)) → ⊥
+  pub log : (k : ℕ) → used_in image ≤ k → k < (layout_in image).log_blocks + 32 → IsLive image (log_start (layout_in image) + k) → ⊥
+
+-- That is so of each image whose root fits it.
+abbrev pub NotLive : Type 0
+NotLive = (image : List Block) → FitsImage image → WritesNoLive image
+
+-- Where no live block is unsynced, an image that has the root of before stands for what the contents stand for, also in the middle of a switch.
+abbrev pub OldRootStands : Type 0
+OldRootStands = (state : State) (slot : ℕ) (image : List Block) (s : Stored) → Stands state.contents s → ((b : ℕ) → IsLive state.contents b → is_among state.unsynced b ≡ false)
+    → HasOldRoot state slot image → Stands image s
+
 -- The blocks of the area with count 0 are as many as the formula over the tree and its places says.
 abbrev pub FreeIsCounted : Type 0
 FreeIsCounted = (image : List Block) (s : Stored) → Stands image s → free_in (layout_in image) (seen image).kept ≡ free_blocks (layout_in image) s.tree s.places
 
--- An image that is assembled stands for what it is assembled for.
-abbrev pub AssembledStands : Type 0
-AssembledStands = (image : List Block) (s : Stored) → IsAssembled image s → Stands image s
-
--- After a point an image stands for the tree and the places that the point made.
-abbrev pub PointStands : Type 0
-PointStands = (old new : List Block) (before s : Stored) → Stands old before → HasPoint old new s → Stands new s
-
--- Where each used number has one path, a tree is seen.
-abbrev pub TreeExists : Type 0
-TreeExists = (s : Seen) → IsNamed s → (tree : Tree) × IsOrdered tree × ((path : Path) → node_at tree path ≡ node_along s path)
-
 -- What an image stands for is a tree in all that is asked of one: fronts of paths are directories, and numbers, widths and sizes have their limits.
 abbrev pub StandingTree : Type 0
 StandingTree = (image : List Block) (s : Stored) → Stands image s → IsTree s.tree
-
--- The inodes of a volume that is spelled are those that are seen, and no fault is met.
-abbrev pub InodesAreSeen : Type 0
-InodesAreSeen = (image : List Block) (of : ℕ → Inode) → IsSpelled (blocks_in image) (root_of_image image).inode_index of → NoFaults (seen image).met × ((n : ℕ) → n < 65536 → inode_of (seen image).nodes n ≡ of n)
 
 -- An image that stands for a tree holds it node by node.
 abbrev pub TreeIsHeld : Type 0
@@ -99,66 +85,10 @@ TreeIsHeld = (image : List Block) (s : Stored) → Stands image s → HoldsTree 
 abbrev pub HeldIsSeen : Type 0
 HeldIsSeen = (s : Seen) (tree : Tree) → IsTree tree → HoldsTree s tree → ((path : Path) → node_at tree path ≡ node_along s path) × IsNamed s
 
--- The walk over a volume that is spelled meets the inode index, the inode blocks, and below each node its index blocks and its places.
-abbrev pub WalkIsSpelled : Type 0
-WalkIsSpelled = (read : Blocks) (at : ℕ) (inode : ℕ → Inode) → IsSpelled read at inode
-    → (nodes_at read at ≡ used_from inode 0 65536) × (walk read at ≡ index at ∷ (map index (nonzero (index_at read at)) ++ flat_map (node_trees read) (used_from inode 0 65536)))
-
--- The kept counts are those that stand in the homes.
-abbrev pub CountsAreSpelled : Type 0
-CountsAreSpelled = (read : Blocks) (homes : List ℕ) (counts : ℕ → ℕ) (blocks : ℕ) → ((b : ℕ) → counts b < 2 ^ 32) → CountsStand read homes counts blocks
-    → (b : ℕ) → b < 1024 * blocks → get_or (counts_from read homes 0 blocks) b 0 ≡ counts b
-
--- What is planned number by number is met without a fault, and leads to metadata of before or to what is taken for it.
-abbrev pub PlanLeads : Type 0
-PlanLeads = (old new : List Block) (before : Stored) (inode : ℕ → Inode) → Stands old before → (plan : IsPlanned old new inode)
-    → NoFaults (seen new).met × ((b : ℕ) → times b (metas (seen new).met) ≤ times b (metas (seen old).met) + times b (taken_in plan.for_inodes plan.for_node))
+-- Where each used number has one path, a tree is seen.
+abbrev pub TreeExists : Type 0
+TreeExists = (s : Seen) → IsNamed s → (tree : Tree) × IsOrdered tree × ((path : Path) → node_at tree path ≡ node_along s path)
 
 -- What a format leaves stands for the root directory alone.
 abbrev pub FreshStands : Type 0
 FreshStands = (g : Layout) (image : List Block) → IsFresh g image → Stands image (fresh_stored g)
-
--- What a point writes isn't live: blocks of the area with count 0, and the homes that the root doesn't name. (No root slot is among the live blocks.)
-pub record WritesNoLive (image : List Block) : Type 0 where
-  pub free : (b : ℕ) → is_in_area (layout_in image) b ≡ true → get_or (seen image).kept b 0 ≡ 0 → IsLive image b → ⊥
-  pub home : (i : ℕ) → i < count_blocks (layout_in image) → IsLive image (3 + 2 * i + (1 - home_bit (root_of_image image).homes i)) → ⊥
-  pub log : (k : ℕ) → used_in image ≤ k → k < (layout_in image).log_blocks + 32 → IsLive image (log_start (layout_in image) + k) → ⊥
-
-abbrev pub NotLive : Type 0
-NotLive = (image : List Block) → FitsImage image → WritesNoLive image
-
--- A file that stands in the blocks below its inode is the file that is seen, and has no tail.
-abbrev pub FileIsSeen : Type 0
-FileIsSeen = (image : List Block) (n : ℕ) (bytes : List ℕ) (height ptr : ℕ) → NoFaults (seen image).met → inode_of (seen image).nodes n ≡ inode.File (length bytes) height ptr
-    → FileStands (blocks_in image) bytes height ptr
-    → (node_of (seen image) n (inode.File (length bytes) height ptr) ≡ Some (record { number = n; content = content.File bytes })) × (has_tail (seen image) (n, inode.File (length bytes) height ptr) ≡ false)
-
--- The places that are seen of a file are those below its inode.
-abbrev pub PlacesAreSeen : Type 0
-PlacesAreSeen = (image : List Block) (n size height ptr place : ℕ) → NoFaults (seen image).met → inode_of (seen image).nodes n ≡ inode.File size height ptr
-    → find spot_cmp (n, place) (map spot_of (seen image).contents) ≡ some_block (block_below (blocks_in image) height ptr place)
-
--- A directory that stands in the blocks below its inode is sound, and its names have the numbers that its slots say.
-abbrev pub DirectoryIsSeen : Type 0
-DirectoryIsSeen = (image : List Block) (n : ℕ) (slots : List Slot) (height ptr : ℕ) → NoFaults (seen image).met → inode_of (seen image).nodes n ≡ inode.Directory (length slots) height ptr
-    → DirectoryStands (blocks_in image) slots height ptr
-    → (is_bad_directory (seen image) (n, inode.Directory (length slots) height ptr) ≡ false) × ((name : List ℕ) → number_in (slots_of (seen image) n) name ≡ numbers_in slots name)
-
--- The places that are seen are in order.
-abbrev pub PlacesInOrder : Type 0
-PlacesInOrder = (image : List Block) → NoFaults (seen image).met → InOrder (map spot_of (seen image).contents)
-
--- The places after a point are in order. So what is seen has them where it has the block of each.
-pub record PointPlaces : Type 0 where
-  pub in_order : (r : Rules) (m : Machine) (fresh : List ℕ) → InOrder m.kept → InOrder (after_point r m fresh).stored_places
-  pub seen : (image : List Block) (r : Rules) (m : Machine) (fresh : List ℕ) → NoFaults (seen image).met → InOrder m.kept
-      → ((spot : Spot) → find spot_cmp spot (map spot_of (seen image).contents) ≡ find spot_cmp spot (after_point r m fresh).stored_places)
-      → map spot_of (seen image).contents ≡ (after_point r m fresh).stored_places
-
--- What a format leaves has all that a point owes, over itself: so there are images that have it.
-abbrev pub FreshHasPoint : Type 0
-FreshHasPoint = (g : Layout) (image : List Block) → IsFresh g image → HasPoint image image (fresh_stored g) × IsPlanned image image fresh_inode
-
--- Places in order that have the same blocks are the same.
-abbrev pub SamePlaces : Type 0
-SamePlaces = (p q : Places) → InOrder p → InOrder q → ((spot : Spot) → find spot_cmp spot p ≡ find spot_cmp spot q) → p ≡ q

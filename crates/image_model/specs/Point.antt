@@ -16,7 +16,7 @@ use Rattle.image_model.specs.Seen.{seen}
 use Rattle.image_model.specs.Stands.{layout_in, records_in, used_in, spot_of}
 
 -- The blocks that a point takes: for metadata and for files. They lie in the area, had count 0, and are taken once.
-pub record IsFresh (old : List Block) (for_metadata for_files : List ℕ) : Type 0 where
+pub record TakesFree (old : List Block) (for_metadata for_files : List ℕ) : Type 0 where
   pub free : (b : ℕ) → is_among (for_metadata ++ for_files) b ≡ true → (is_in_area (layout_in old) b ≡ true) × (get_or (seen old).kept b 0 ≡ 0)
   pub once : (b : ℕ) → times b (for_metadata ++ for_files) ≤ 1
 
@@ -54,7 +54,7 @@ pub record HasPoint (old new : List Block) (s : Stored) : Type 0 where
   pub log_empty : (s.records ≡ []) × (records_in new ≡ 0) × (used_in new ≡ 0)
   pub for_metadata : List ℕ
   pub for_files : List ℕ
-  pub fresh : IsFresh old for_metadata for_files
+  pub fresh : TakesFree old for_metadata for_files
   pub leads : LeadsTo old new for_metadata for_files
   pub counts : (b : ℕ) → b < 1024 * count_blocks (layout_in new) → get_or (seen new).kept b 0 ≡ pointers_to b (seen new).met
   pub tails : (node : ℕ × Inode) → Contains (seen new).nodes node → has_tail (seen new) node ≡ false

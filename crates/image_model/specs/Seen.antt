@@ -42,6 +42,7 @@ abbrev pub all_held : (Met → List Held) → List Met → List Held
 all_held f [] = []
 all_held f (m ∷ ms) = f m ++ all_held f ms
 
+-- All that the meaning of an image and its faults are read from, behind the root and before the log.
 pub record Seen : Type 0 where
   -- what the walk meets
   pub met : List Met
@@ -66,5 +67,6 @@ seen_from read at homes count_blocks =
       kept = counts_from read homes 0 count_blocks;
     }
 
+-- what is seen of an image
 unfoldable pub seen : List Block → Seen
 seen image = let root : Root = root_of_image image in seen_from (blocks_in image) root.inode_index root.homes (count_blocks root.layout)

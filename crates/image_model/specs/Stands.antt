@@ -23,12 +23,15 @@ use Rattle.image_model.specs.Slots.{held_at, inode_of, number_along}
 use Rattle.image_model.specs.Seen.{Seen, Held, seen}
 use Rattle.image_model.specs.Sound.{IsSound}
 
+-- the layout that the root says
 abbrev pub layout_in : List Block → Layout
 layout_in image = (root_of_image image).layout
 
+-- how many records the root says that the log has
 abbrev pub records_in : List Block → ℕ
 records_in image = (root_of_image image).records
 
+-- how many log blocks the root says that they take
 abbrev pub used_in : List Block → ℕ
 used_in image = (root_of_image image).log_used
 
@@ -39,6 +42,7 @@ abbrev pub bytes_from : List Held → ℕ → ℕ → ℕ → List ℕ
 bytes_from held n place zero = []
 bytes_from held n place (suc k) = take 4096 (held_at held n place ++ replicate 4096 0) ++ bytes_from held n (place + 1) k
 
+-- the node of a number by its inode, with the bytes of a file
 abbrev pub node_of : Seen → ℕ → Inode → Option Node
 node_of s n Unused = None
 node_of s n (File size height ptr) = Some (record { number = n; content = tree.File (take size (bytes_from s.contents n 0 (blocks_of size))) })
@@ -75,6 +79,7 @@ pub record Logs (image : List Block) (s : Stored) : Type 0 where
 
 -- ---- all of it
 
+-- The image stands for this: it has a root that fits it, what is seen of it is sound and shows the tree and the places, and the log has the records.
 pub record Stands (image : List Block) (s : Stored) : Type 0 where
   pub root : HasRoot image
   pub fits : FitsImage image

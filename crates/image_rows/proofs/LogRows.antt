@@ -1,5 +1,5 @@
 -- The rows of the log.
-use Rattle.std.proofs.Common.{◌≡◌, ℕ, zero, suc, ◌+◌, ◌*◌, ◌<◌, ◌≤◌, List, [], ◌∷◌, ◌++◌, length, Some, None, refl, sym, ap, subst, ◌∙◌, arith, inl, inr}
+use Rattle.std.proofs.Common.{◌≡◌, ℕ, ◌+◌, ◌<◌, ◌≤◌, List, [], length, Some, None, refl, sym, ap, ◌∙◌, arith, inl, inr}
 use Rattle.std.specs.Prelude.{Option, unwrap_or, slice_get, slice_index}
 use Rattle.vol_numbers.specs.Block.{zero_block}
 use Rattle.vol_numbers.specs.Layout.{log_start}
@@ -8,15 +8,14 @@ use Rattle.block_format.specs.Inode.{inode_in}
 use Rattle.block_format.specs.Root.{root_in}
 use Rattle.block_format.specs.Slot.{slot_in}
 use Rattle.block_format.specs.Words.{words}
-use Rattle.tree_model.specs.Tree.{Tree}
 use Rattle.tree_model.specs.declared.command.Command.{Command}
-use Rattle.tree_model.specs.declared.command.Command.TheVariants.{Mkdir, Create, Write, Truncate, Remove, Rename, Read, List as ListOf, Stat, Layout, Space, Checkpoint, End}
+use Rattle.tree_model.specs.declared.command.Command.TheVariants.{Mkdir, Create, Write, Truncate, Remove, Rename}
 use Rattle.op_log.specs.Record.{Fields, fields_of, header, text_of, text_block, record_blocks, record_block}
 use Rattle.volume_model.specs.Machine.{Stored}
 use Rattle.image_model.specs.declared.finding.Finding.TheVariants.{BadLog}
 use Rattle.image_model.specs.Exact.{seen_stored}
 use Rattle.image_model.specs.Findings.{body_finding}
-use Rattle.image_model.specs.Finds.{early_finding, Finds, HasAccepted, IsBadLog}
+use Rattle.image_model.specs.Finds.{early_finding, Finds, HasAccepted}
 use Rattle.image_model.specs.Next.{and_command}
 use Rattle.image_model.specs.Nodes.{tree_finding}
 use Rattle.image_model.specs.Roots.{root_finding}

@@ -1,5 +1,5 @@
 -- Images that are made from the grammar: volumes of the least size, with zeros where nothing is said.
-use Rattle.std.specs.Prelude.{ℕ, zero, suc, ◌+◌, ◌-◌, ◌*◌, ◌==◌, if◌then◌else◌, List, [], ◌∷◌, ◌++◌, length, map, replicate, slice_set}
+use Rattle.std.specs.Prelude.{ℕ, zero, suc, ◌+◌, ◌-◌, ◌==◌, if◌then◌else◌, List, [], ◌∷◌, ◌++◌, length, map, replicate, slice_set}
 use Rattle.std.specs.List.{flat_map}
 use Rattle.vol_numbers.specs.declared.block.Block.{Block}
 use Rattle.block_format.specs.Counts.{count_bytes}

@@ -8,7 +8,10 @@ use Rattle.image_rows.specs.Images.{filled, root, with_blocks}
 
 -- the root counts one record, and that is of kind 7; else it would be `create /c`
 abbrev pub seventh_kind : List Block
-seventh_kind = with_blocks ((1, root_bytes (record root { records = 1; log_used = 1 })) ∷ (5, filled (7 ∷ 0 ∷ 0 ∷ 0 ∷ 2 ∷ replicate 19 0 ++ (47 ∷ 99 ∷ []))) ∷ [])
+seventh_kind = with_blocks (
+    (1, root_bytes (record root { records = 1; log_used = 1 }))
+    ∷ (5, filled (7 ∷ 0 ∷ 0 ∷ 0 ∷ 2 ∷ replicate 19 0 ++ (47 ∷ 99 ∷ [])))
+    ∷ [])
 
 -- the root counts no record, and says that one block is used
 abbrev pub spare_block : List Block

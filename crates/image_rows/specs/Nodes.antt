@@ -5,7 +5,7 @@ use Rattle.block_format.specs.declared.inode.Inode.TheVariants.{Unused, File, Di
 use Rattle.image_model.specs.Finds.{early_finding}
 use Rattle.block_format.specs.declared.slot.Slot.TheVariants as slots
 use Rattle.image_model.specs.declared.finding.Finding.TheVariants.{MixedBlock, BadTail, BadDirectory, NotATree}
-use Rattle.image_rows.specs.Images.{index_block, inode_block, directory_block, root, inodes, entries, with_blocks, with_byte}
+use Rattle.image_rows.specs.Images.{index_block, inode_block, directory_block, inodes, entries, with_blocks, with_byte}
 
 -- a place of the first file has the block of the root directory
 abbrev pub directory_shared : List Block
@@ -81,7 +81,10 @@ root_named = with_blocks ((103, directory_block (slots.Entry 2 (97 ∷ []) ∷ s
 
 -- an entry names number 4, which is unused
 abbrev pub unused_named : List Block
-unused_named = with_blocks ((101, inode_block (Unused ∷ Directory 3 0 103 ∷ File 5000 1 104 ∷ File 4096 0 105 ∷ [])) ∷ (103, directory_block (entries ++ slots.Entry 4 (99 ∷ []) ∷ [])) ∷ [])
+unused_named = with_blocks (
+    (101, inode_block (Unused ∷ Directory 3 0 103 ∷ File 5000 1 104 ∷ File 4096 0 105 ∷ []))
+    ∷ (103, directory_block (entries ++ slots.Entry 4 (99 ∷ []) ∷ []))
+    ∷ [])
 
 -- no entry names number 3
 abbrev pub unnamed : List Block
@@ -89,7 +92,11 @@ unnamed = with_blocks ((103, directory_block (slots.Entry 2 (97 ∷ []) ∷ []))
 
 -- two directories, each of which is named in the other alone
 abbrev pub ring : List Block
-ring = with_blocks ((101, inode_block (inodes ++ (Directory 1 0 107 ∷ Directory 1 0 108 ∷ []))) ∷ (107, directory_block (slots.Entry 5 (97 ∷ []) ∷ [])) ∷ (108, directory_block (slots.Entry 4 (97 ∷ []) ∷ [])) ∷ [])
+ring = with_blocks (
+    (101, inode_block (inodes ++ (Directory 1 0 107 ∷ Directory 1 0 108 ∷ [])))
+    ∷ (107, directory_block (slots.Entry 5 (97 ∷ []) ∷ []))
+    ∷ (108, directory_block (slots.Entry 4 (97 ∷ []) ∷ []))
+    ∷ [])
 
 -- numbers that are named or reached wrongly
 pub record NotATreeRows : Type 0 where

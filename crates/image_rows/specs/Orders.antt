@@ -11,11 +11,15 @@ use Rattle.image_rows.specs.Images.{index_block, inode_block, directory_block, c
 
 -- no shape of a root, and a log of 63 blocks
 abbrev pub root_and_geometry : List Block
-root_and_geometry = with_blocks ((1, with_byte (root_bytes (record root { layout = record { blocks = 165; log_blocks = 63 } })) 0 0) ∷ [])
+root_and_geometry = with_blocks (
+    (1, with_byte (root_bytes (record root { layout = record { blocks = 165; log_blocks = 63 } })) 0 0)
+    ∷ [])
 
 -- a log of 63 blocks, and no inode index
 abbrev pub geometry_and_pointer : List Block
-geometry_and_pointer = with_blocks ((1, root_bytes (record root { layout = record { blocks = 165; log_blocks = 63 }; inode_index = 0 })) ∷ [])
+geometry_and_pointer = with_blocks (
+    (1, root_bytes (record root { layout = record { blocks = 165; log_blocks = 63 }; inode_index = 0 }))
+    ∷ [])
 
 -- a place with a block of the counts, and one with the block of the root directory
 abbrev pub pointer_and_mixed : List Block
@@ -23,11 +27,17 @@ pointer_and_mixed = with_blocks ((104, index_block (103 ∷ 3 ∷ [])) ∷ [])
 
 -- the block of the root directory as that of a place, and a tail in the other file
 abbrev pub mixed_and_tail : List Block
-mixed_and_tail = with_blocks ((101, inode_block (Unused ∷ Directory 2 0 103 ∷ File 5000 1 104 ∷ File 4095 0 105 ∷ [])) ∷ (104, index_block (103 ∷ 106 ∷ [])) ∷ [])
+mixed_and_tail = with_blocks (
+    (101, inode_block (Unused ∷ Directory 2 0 103 ∷ File 5000 1 104 ∷ File 4095 0 105 ∷ []))
+    ∷ (104, index_block (103 ∷ 106 ∷ []))
+    ∷ [])
 
 -- a tail of number 3, and equal names
 abbrev pub tail_and_directory : List Block
-tail_and_directory = with_blocks ((101, inode_block (Unused ∷ Directory 2 0 103 ∷ File 5000 1 104 ∷ File 4095 0 105 ∷ [])) ∷ (103, with_byte (directory_block entries) 262 97) ∷ [])
+tail_and_directory = with_blocks (
+    (101, inode_block (Unused ∷ Directory 2 0 103 ∷ File 5000 1 104 ∷ File 4095 0 105 ∷ []))
+    ∷ (103, with_byte (directory_block entries) 262 97)
+    ∷ [])
 
 -- equal names, and number 1 named
 abbrev pub directory_and_tree : List Block
@@ -35,11 +45,19 @@ directory_and_tree = with_blocks ((103, directory_block (slots.Entry 1 (97 ∷ [
 
 -- no entry names number 3, and block 50 is counted
 abbrev pub tree_and_count : List Block
-tree_and_count = with_blocks ((3, count_block ((50, 1) ∷ counts)) ∷ (103, directory_block (slots.Entry 2 (97 ∷ []) ∷ [])) ∷ [])
+tree_and_count = with_blocks (
+    (3, count_block ((50, 1) ∷ counts))
+    ∷ (103, directory_block (slots.Entry 2 (97 ∷ []) ∷ []))
+    ∷ [])
 
 -- 15 blocks are free, and block 101 is counted twice
 abbrev pub count_and_reserve : List Block
-count_and_reserve = with_blocks ((3, count_block ((101, 2) ∷ ones 102 48)) ∷ (101, inode_block (Unused ∷ Directory 1 0 103 ∷ File 184320 1 104 ∷ [])) ∷ (103, directory_block (slots.Entry 2 (97 ∷ []) ∷ [])) ∷ (104, index_block (span 105 45)) ∷ [])
+count_and_reserve = with_blocks (
+    (3, count_block ((101, 2) ∷ ones 102 48))
+    ∷ (101, inode_block (Unused ∷ Directory 1 0 103 ∷ File 184320 1 104 ∷ []))
+    ∷ (103, directory_block (slots.Entry 2 (97 ∷ []) ∷ []))
+    ∷ (104, index_block (span 105 45))
+    ∷ [])
 
 -- the earlier phase
 pub record OrderRows : Type 0 where

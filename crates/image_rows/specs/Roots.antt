@@ -49,7 +49,8 @@ other_size = with_blocks ((1, root_bytes (record root { layout = record { blocks
 
 -- a volume of 164 blocks has an area of 63
 abbrev pub small_area : List Block
-small_area = image_from (standing ((1, root_bytes (record root { layout = record { blocks = 164; log_blocks = 64 } })) ∷ small_blocks)) 0 164
+small_area =
+    image_from (standing ((1, root_bytes (record root { layout = record { blocks = 164; log_blocks = 64 } })) ∷ small_blocks)) 0 164
 
 -- two records in one block
 abbrev pub many_records : List Block

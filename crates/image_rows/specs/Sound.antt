@@ -10,9 +10,16 @@ use Rattle.image_rows.specs.Images.{filled, index_block, inode_block, directory_
 
 -- as a format leaves it
 abbrev pub blank : List Block
-blank = image_of ((1, root_bytes (record root { point = 0 })) ∷ (3, count_block ((101, 1) ∷ (102, 1) ∷ [])) ∷ (101, inode_block (Unused ∷ Directory 0 0 0 ∷ [])) ∷ (102, index_block (101 ∷ [])) ∷ [])
+blank = image_of (
+    (1, root_bytes (record root { point = 0 }))
+    ∷ (3, count_block ((101, 1) ∷ (102, 1) ∷ []))
+    ∷ (101, inode_block (Unused ∷ Directory 0 0 0 ∷ []))
+    ∷ (102, index_block (101 ∷ []))
+    ∷ [])
 
--- Slot 1 is current, by an odd first byte of the selector. The root names the other home of the counts; the first one holds anything. The last place of the first file is a hole, and nothing is said of its tail. The second file has 4,294,967,296 bytes and no block: it needs no index block.
+-- Slot 1 is current, by an odd first byte of the selector. The root names the other home of the counts; the first one holds anything. The last
+-- place of the first file is a hole, and nothing is said of its tail. The second file has 4,294,967,296 bytes and no block: it needs no index
+-- block.
 abbrev pub unlike : List Block
 unlike = with_blocks (
     (0, filled (3 ∷ 255 ∷ []))
@@ -26,7 +33,12 @@ unlike = with_blocks (
 
 -- the first file has 44 blocks, and 16 are free
 abbrev pub just_enough : List Block
-just_enough = with_blocks ((3, count_block (ones 101 48)) ∷ (101, inode_block (Unused ∷ Directory 1 0 103 ∷ File 180224 1 104 ∷ [])) ∷ (103, directory_block (slots.Entry 2 (97 ∷ []) ∷ [])) ∷ (104, index_block (span 105 44)) ∷ [])
+just_enough = with_blocks (
+    (3, count_block (ones 101 48))
+    ∷ (101, inode_block (Unused ∷ Directory 1 0 103 ∷ File 180224 1 104 ∷ []))
+    ∷ (103, directory_block (slots.Entry 2 (97 ∷ []) ∷ []))
+    ∷ (104, index_block (span 105 44))
+    ∷ [])
 
 -- nothing is found
 pub record SoundImages : Type 0 where

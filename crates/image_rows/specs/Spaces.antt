@@ -23,7 +23,12 @@ pub record WrongCountRows : Type 0 where
 
 -- the first file has 45 blocks, and 15 are free
 abbrev pub fifteen_free : List Block
-fifteen_free = with_blocks ((3, count_block (ones 101 49)) ∷ (101, inode_block (Unused ∷ Directory 1 0 103 ∷ File 184320 1 104 ∷ [])) ∷ (103, directory_block (slots.Entry 2 (97 ∷ []) ∷ [])) ∷ (104, index_block (span 105 45)) ∷ [])
+fifteen_free = with_blocks (
+    (3, count_block (ones 101 49))
+    ∷ (101, inode_block (Unused ∷ Directory 1 0 103 ∷ File 184320 1 104 ∷ []))
+    ∷ (103, directory_block (slots.Entry 2 (97 ∷ []) ∷ []))
+    ∷ (104, index_block (span 105 45))
+    ∷ [])
 
 -- fewer than 16 free blocks
 pub record NoReserveRows : Type 0 where

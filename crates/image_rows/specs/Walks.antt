@@ -5,7 +5,7 @@ use Rattle.block_format.specs.Root.{root_bytes}
 use Rattle.block_format.specs.declared.inode.Inode.TheVariants.{Unused, File, Directory}
 use Rattle.image_model.specs.Finds.{early_finding}
 use Rattle.image_model.specs.declared.finding.Finding.TheVariants.{BadPointer, BadInode}
-use Rattle.image_rows.specs.Images.{index_block, inode_block, root, inodes, entries, counts, with_blocks, with_byte}
+use Rattle.image_rows.specs.Images.{index_block, inode_block, root, inodes, with_blocks, with_byte}
 
 -- there is no inode index
 abbrev pub no_index : List Block
@@ -49,7 +49,12 @@ stray_outside = with_blocks ((101, inode_block (Unused ∷ Directory 2 0 103 ∷
 
 -- The first file has 1,025 blocks, and its top index a third leaf. That comes before the block 3, which the first leaf leads to.
 abbrev pub leaf_behind : List Block
-leaf_behind = with_blocks ((101, inode_block (Unused ∷ Directory 2 0 103 ∷ File 4198400 2 104 ∷ File 4096 0 105 ∷ [])) ∷ (104, index_block (107 ∷ 108 ∷ 109 ∷ [])) ∷ (107, index_block (3 ∷ [])) ∷ (108, index_block (106 ∷ [])) ∷ [])
+leaf_behind = with_blocks (
+    (101, inode_block (Unused ∷ Directory 2 0 103 ∷ File 4198400 2 104 ∷ File 4096 0 105 ∷ []))
+    ∷ (104, index_block (107 ∷ 108 ∷ 109 ∷ []))
+    ∷ (107, index_block (3 ∷ []))
+    ∷ (108, index_block (106 ∷ []))
+    ∷ [])
 
 -- pointers that may not be so
 pub record BadPointerRows : Type 0 where
@@ -71,7 +76,9 @@ third_kind = with_blocks ((101, with_byte (inode_block inodes) 128 3) ∷ [])
 
 -- number 0 is a file
 abbrev pub used_zero : List Block
-used_zero = with_blocks ((101, inode_block (File 0 0 0 ∷ Directory 2 0 103 ∷ File 5000 1 104 ∷ File 4096 0 105 ∷ [])) ∷ [])
+used_zero = with_blocks (
+    (101, inode_block (File 0 0 0 ∷ Directory 2 0 103 ∷ File 5000 1 104 ∷ File 4096 0 105 ∷ []))
+    ∷ [])
 
 -- there is a second inode block, and none of its inodes is used
 abbrev pub none_used : List Block
@@ -95,7 +102,9 @@ stray_inside = with_blocks ((101, inode_block (Unused ∷ Directory 2 0 103 ∷ 
 
 -- number 2 has no byte and a pointer that leads nowhere, which is looked at behind all inodes; number 3 is of kind 3
 abbrev pub stray_then_kind : List Block
-stray_then_kind = with_blocks ((101, with_byte (inode_block (Unused ∷ Directory 2 0 103 ∷ File 0 0 165 ∷ File 4096 0 105 ∷ [])) 192 3) ∷ [])
+stray_then_kind = with_blocks (
+    (101, with_byte (inode_block (Unused ∷ Directory 2 0 103 ∷ File 0 0 165 ∷ File 4096 0 105 ∷ [])) 192 3)
+    ∷ [])
 
 -- inodes that may not be so
 pub record BadInodeRows : Type 0 where

@@ -1,4 +1,3 @@
-use Rattle.std.proofs.Common.{refl}
 use Rattle.block_format.specs.Words.{words}
 use Rattle.block_format.specs.Inode.{inode_in}
 use Rattle.block_format.specs.Root.{root_in}

@@ -1,5 +1,5 @@
 use Rattle.image_model.proofs.FreshLaws.{fresh_has_point}
-use Rattle.image_model.proofs.meaning.fresh_has_point.Goals as goal
+use Rattle.image_model.proofs.planning.fresh_has_point.Goals as goal
 
 pub returns : goal.returns
 returns c = fresh_has_point

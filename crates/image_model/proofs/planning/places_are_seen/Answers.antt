@@ -1,5 +1,5 @@
 use Rattle.image_model.proofs.FileLaws.{places_are_seen}
-use Rattle.image_model.proofs.meaning.places_are_seen.Goals as goal
+use Rattle.image_model.proofs.planning.places_are_seen.Goals as goal
 
 pub returns : goal.returns
 returns c = places_are_seen

@@ -1,5 +1,5 @@
 use Rattle.image_model.proofs.NextLaws.{point_places}
-use Rattle.image_model.proofs.meaning.point_places.Goals as goal
+use Rattle.image_model.proofs.planning.point_places.Goals as goal
 
 pub returns : goal.returns
 returns c = point_places

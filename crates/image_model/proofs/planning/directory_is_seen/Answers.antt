@@ -1,5 +1,5 @@
 use Rattle.image_model.proofs.DirectoryLaws.{directory_is_seen}
-use Rattle.image_model.proofs.meaning.directory_is_seen.Goals as goal
+use Rattle.image_model.proofs.planning.directory_is_seen.Goals as goal
 
 pub returns : goal.returns
 returns c = directory_is_seen
