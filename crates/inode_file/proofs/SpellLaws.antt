@@ -1,16 +1,17 @@
 -- What blocks spell.
-use Rattle.std.proofs.Common.{◌≡◌, ◌<◌, ℕ, zero, suc, ◌+◌, ◌*◌, ◌/◌, ◌%◌, ◌==◌, Bool, false, cond, List, [], ◌∷◌, refl, ap, sym, ◌∙◌, subst, arith}
-use Rattle.std.specs.Prelude.{slice_index, not, Some, take}
+use Rattle.std.proofs.Common.{◌≡◌, ◌<◌, ℕ, zero, suc, ◌+◌, ◌*◌, ◌/◌, ◌%◌, ◌==◌, Bool, true, false, cond, List, [], ◌∷◌, ◌++◌, refl, ap, sym, ◌∙◌, subst, arith}
+use Rattle.std.specs.Prelude.{map, slice_index, not, Some, take}
 use Rattle.std.specs.List.{AllByRecursion}
 use Rattle.std.proofs.lemmas.Bool.Decides.{nat_tests}
 use Rattle.std.proofs.lemmas.List.{ext_get_or}
+use Rattle.std.proofs.lemmas.List.Elements.{filter-append}
 use Rattle.block_format.specs.Words.{words}
 use Rattle.block_format.specs.Inode.{inode_at, inode_part}
 use Rattle.block_format.specs.declared.inode.Inode.{Inode}
 use Rattle.block_format.specs.declared.inode.Inode.TheVariants.{Unused}
-use Rattle.block_tree.specs.Tree.{Blocks, index_at, nonzero}
+use Rattle.block_tree.specs.Tree.{Blocks, index_at, nonzero, pairs_from}
 use Rattle.inode_file.specs.Inodes.{inode_of, block_of, SpellsInodeAt}
-use Rattle.inode_file.specs.Laws.{NumberSpelled, OneTable, TableStays}
+use Rattle.inode_file.specs.Laws.{NumberSpelled, OneTable, TableStays, TreeOfTable}
 use Rattle.inode_file.proofs.CountingLaws.{block_entry}
 
 pub number_spelled : NumberSpelled
@@ -64,3 +65,18 @@ table_stays read after t stands all =
             (subst (λ (ps : List ℕ). SpellsInodeAt read (slice_index ps k) j (inode_of (block_of t.stored k) j)) (sym same) (stands.inodes.each k lt j below));
       };
     }
+
+-- the pairs of pointers have those that lead to blocks
+values : (place : ℕ) (ps : List ℕ) → map (λ e. e.1) (pairs_from place ps) ≡ nonzero ps
+values place [] = refl
+values place (p ∷ ps) = by_test (p == 0) p ps place (values (place + 1) ps)
+  where
+    by_test : (t : Bool) (q : ℕ) (qs : List ℕ) (at : ℕ) → map (λ e. e.1) (pairs_from (at + 1) qs) ≡ nonzero qs
+        → map (λ (e : ℕ × ℕ). e.1) (cond t [] ((at, q) ∷ []) ++ pairs_from (at + 1) qs) ≡ cond (not t) (q ∷ nonzero qs) (nonzero qs)
+    by_test true q qs at rest = rest
+    by_test false q qs at rest = ap (λ (xs : List ℕ). q ∷ xs) rest
+
+pub tree_of_table : TreeOfTable
+tree_of_table read t stands =
+    ap (λ (xs : List ℕ). nonzero (t.index ∷ []) ++ xs) (values 0 (index_at read t.index) ∙ ap nonzero stands.index)
+    ∙ sym (filter-append (λ (p : ℕ). not (p == 0)) (t.index ∷ []) t.pointers)

@@ -2,6 +2,7 @@
 use Rattle.std.specs.Prelude.{◌≡◌, ◌<◌, ◌/◌, ◌%◌, ℕ, List, slice_index}
 use Rattle.std.specs.List.{AllByRecursion}
 use Rattle.block_format.specs.declared.inode.Inode.{Inode}
+use Rattle.block_tree.specs.Root.{tree_pointers}
 use Rattle.block_tree.specs.Tree.{Blocks, index_at}
 use Rattle.inode_file.specs.Inodes.{InodeTable, inode_of, SpellsInodeAt, SpellsInodes, Stands}
 use Rattle.inode_file.specs.Rewriting.{table_pointers}
@@ -18,3 +19,7 @@ OneTable = (read : Blocks) (index : ℕ) (inodes other : List Inode) → SpellsI
 -- What stands in blocks stands wherever these blocks are as they were.
 abbrev pub TableStays : Type 0
 TableStays = (read after : Blocks) (t : InodeTable) → Stands read t → AllByRecursion (λ b. after b ≡ read b) (table_pointers t) → Stands after t
+
+-- The pointers of a table are those of the tree of height 1 whose index is the inode index.
+abbrev pub TreeOfTable : Type 0
+TreeOfTable = (read : Blocks) (t : InodeTable) → Stands read t → tree_pointers read (record { height = 1; ptr = t.index }) ≡ table_pointers t

@@ -39,6 +39,7 @@ pub record IsDamage (g : Layout) (tells : Bool) (contents : Blocks) (index : ℕ
   pub outside : IsNoIndexBlock g index b new.block.bytes ⊎ ((IsTrue tells → is_among (index_at contents index) b ≡ true) × IsNoInodeBlock g new.block.bytes)
   pub stands : IsTrue tells → contents b ≡ new.block.bytes
 
+-- what a fault tells of the block that was read last
 abbrev pub HasDamage : Layout → Bool → Blocks → ℕ → Given → Given → TreeFault → Type 0
 HasDamage g tells contents index old new Device = Unit {0}
 HasDamage g tells contents index old new (Damaged b) = IsDamage g tells contents index old new b

@@ -10,6 +10,7 @@ abbrev pub has_used : List Inode → Bool
 has_used [] = false
 has_used (inode ∷ rest) = is_used inode || has_used rest
 
+-- whether two inodes are the same
 abbrev pub is_same : Inode → Inode → Bool
 is_same Unused Unused = true
 is_same (File size height ptr) (File size' height' ptr') = size == size' && (height == height' && ptr == ptr')

@@ -1,5 +1,5 @@
 //! Laws of inodes in blocks.
-ghost use Rattle.inode_file.specs.Laws.{NumberSpelled, OneTable, TableStays};
+ghost use Rattle.inode_file.specs.Laws.{NumberSpelled, OneTable, TableStays, TreeOfTable};
 
 /// The inode of a number is the one at its position in its block.
 pub fn number_spelled()
@@ -14,4 +14,9 @@ pub fn one_table()
 /// What stands in blocks stands wherever these blocks are as they were.
 pub fn table_stays()
     ensures { TableStays }
+{}
+
+/// The pointers of a table are those of the tree of height 1 whose index is the inode index.
+pub fn tree_of_table()
+    ensures { TreeOfTable }
 {}
