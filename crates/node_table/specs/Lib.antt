@@ -1,0 +1,5 @@
+pub mod Checks
+pub mod Counts
+pub mod Held
+pub mod Kept
+pub mod Walks

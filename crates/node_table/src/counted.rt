@@ -1,0 +1,65 @@
+//! A directory with how many entries it has.
+ghost use Rattle.std.specs.Prelude.{◌≡◌, ◌<◌, ◌≤◌, None, IfOk, OnErr, length};
+ghost use Rattle.block_format.specs.declared.slot.Slot.TheVariants.{Entry};
+ghost use Rattle.dir_slots.specs.Slots.{IsDirectory, number_in, slot_of, first_unused, with_slot, without_slot};
+ghost use Rattle.node_table.specs.Counts.{count};
+
+use dir_slots::Directory;
+use std::alloc::{AllocError, Global};
+use std::marker::Model;
+use vol_numbers::{InoNo, Name};
+
+/// A directory whose entries are counted.
+#[derive(Drop)]
+pub(crate) struct CountedDirectory {
+    directory: Directory,
+    entries: u32,
+}
+
+impl Model for CountedDirectory {
+    ghost use Rattle.std.specs.Prelude.{◌≡◌, List};
+    ghost use Rattle.block_format.specs.declared.slot.Slot.{Slot};
+    ghost use Rattle.node_table.specs.Counts.{count};
+
+    ghost Value = { List Slot };
+
+    ghost view = { λ d. d.directory };
+
+    ghost invariant = { λ d. d.entries ≡ count d.directory };
+}
+
+impl CountedDirectory {
+    /// Counts the entries.
+    pub(crate) fn new(alloc: Global, directory: Directory) -> Result<CountedDirectory, AllocError>
+        ensures { IfOk result (λ counted. counted ≡ directory) }
+    {
+        let _width = directory.width();
+        let entries = directory.entries(alloc)?.len() as u32;
+        Ok(CountedDirectory { directory, entries })
+    }
+
+    pub(crate) fn count(&self) -> u32
+        ensures is { result ≡ count self.now }
+        ensures directory { IsDirectory self.now }
+    {
+        let _width = self.directory.width();
+        self.entries
+    }
+}
+
+impl CountedDirectory {
+    /// How many slots there are.
+    pub(crate) fn width(&self) -> u32
+        ensures is { result ≡ length self.now }
+        ensures directory { IsDirectory self.now }
+    {
+        self.directory.width()
+    }
+
+    /// The number of the node of this name.
+    pub(crate) fn find(&self, name: &Name) -> Option<InoNo>
+        ensures { result ≡ number_in self.now name.now }
+    {
+        self.directory.find(name)
+    }
+}
