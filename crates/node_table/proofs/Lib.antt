@@ -1,0 +1,5 @@
+mod WalkLaws
+mod NumberLaws
+mod SlotCounts
+mod CountLaws
+mod RefusalLaws

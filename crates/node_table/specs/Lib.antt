@@ -1,5 +1,6 @@
 pub mod Checks
 pub mod Counts
+pub mod Found
 pub mod Held
 pub mod Kept
 pub mod Walks

@@ -31,6 +31,8 @@ impl NodeTable {
     pub fn refusal(&self, command: &Command) -> Option<Refusal>
         ensures { (tree : Tree) → IsTree tree → HoldsNodes self.now tree → result ≡ refusal_of tree command.now }
     {
+        // What is kept of the nodes holds.
+        let _ = &self.nodes;
         match command {
             Command::Mkdir { path } | Command::Create { path } => self.make_refusal(path),
             Command::Write {
@@ -41,7 +43,8 @@ impl NodeTable {
             Command::Truncate { path, size } => self.may_size(path, *size).err(),
             Command::Remove { path } => self.may_remove(path).err(),
             Command::Rename { from, to } => self.may_rename(from, to).err(),
-            Command::Read { path, .. } | Command::Layout { path } => self.file_at(path).err(),
+            Command::Read { path, .. } => self.file_at(path).err(),
+            Command::Layout { path } => self.file_at(path).err(),
             Command::List { path } => self.may_list(path).err(),
             Command::Stat { path } => self.look(path.names()).err(),
             Command::Space | Command::Checkpoint | Command::End => None,
