@@ -1,5 +1,6 @@
 mod WalkLaws
 mod NumberLaws
+mod KeptLaws
 mod SlotCounts
 mod CountLaws
 mod RefusalLaws

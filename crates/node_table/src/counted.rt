@@ -63,3 +63,39 @@ impl CountedDirectory {
         self.directory.find(name)
     }
 }
+
+impl CountedDirectory {
+    /// Puts an entry into the first unused slot, and says which that is.
+    #[tactic(auto, using(crate::proofs::SlotCounts::count_with, crate::proofs::SlotCounts::count_within))]
+    pub(crate) fn add(&mut self, name: &Name, number: InoNo) -> Result<u32, AllocError>
+        requires absent { slot_of self.old name.now ≡ None }
+        requires number { 1 ≤ number }
+        requires at_most { number ≤ 65535 }
+        requires room { first_unused self.old < 65534 }
+        ensures slot { IfOk result (λ slot. slot ≡ first_unused self.old) }
+        ensures added { IfOk result (λ slot. self.new ≡ with_slot self.old slot (Entry number name.now)) }
+        ensures directory { IsDirectory self.new }
+        ensures unchanged { OnErr result (self.new ≡ self.old) }
+    {
+        let _width = self.directory.width();
+        let slot = self.directory.add(name, number)?;
+        self.entries += 1;
+        let _width = self.directory.width();
+        Ok(slot)
+    }
+
+    /// Makes the slot of a name unused, and says which that was.
+    #[tactic(auto, using(crate::proofs::SlotCounts::count_without))]
+    pub(crate) fn remove(&mut self, name: &Name) -> Option<u32>
+        ensures slot { result ≡ slot_of self.old name.now }
+        ensures removed { self.new ≡ without_slot self.old (slot_of self.old name.now) }
+        ensures directory { IsDirectory self.new }
+    {
+        let _width = self.directory.width();
+        let slot = self.directory.slot_of(name)?;
+        self.directory.remove(name);
+        self.entries -= 1;
+        let _width = self.directory.width();
+        Some(slot)
+    }
+}
