@@ -4,3 +4,5 @@ mod KeptLaws
 mod SlotCounts
 mod CountLaws
 mod RefusalLaws
+mod PieceLaws
+mod ShapeLaws

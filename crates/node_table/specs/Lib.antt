@@ -1,3 +1,4 @@
+pub mod Accepted
 pub mod Changes
 pub mod Checks
 pub mod Counts
