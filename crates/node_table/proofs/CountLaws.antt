@@ -21,7 +21,7 @@ use Rattle.node_table.proofs.NumberLaws.{head_apart}
 
 -- ---- names in slots
 
-abbrev names_in : List Slot → List (List ℕ)
+abbrev pub names_in : List Slot → List (List ℕ)
 names_in slots = map name_of (filter is_used slots)
 
 names_length : (slots : List Slot) → length (names_in slots) ≡ count slots
@@ -34,17 +34,17 @@ name_sym a b = same_test _ _
     (λ e. subst (λ (x : List ℕ). name_eq x a ≡ true) (same_name a b e) (nat_list_eq_equiv.refl a))
     (λ e. subst (λ (x : List ℕ). name_eq x b ≡ true) (same_name b a e) (nat_list_eq_equiv.refl b))
 
-slot_member : (slots : List Slot) (name : List ℕ) → is_member name_eq (names_in slots) name ≡ is_some (number_in slots name)
+pub slot_member : (slots : List Slot) (name : List ℕ) → is_member name_eq (names_in slots) name ≡ is_some (number_in slots name)
 slot_member [] name = refl
 slot_member (Unused ∷ slots) name = slot_member slots name
 slot_member (Entry number other ∷ slots) name =
     ap (λ b. b || is_member name_eq (names_in slots) name) (name_sym name other)
     ∙ elim (name_eq other name) as (λ b. (b || is_member name_eq (names_in slots) name) ≡ is_some (cond b (Some number) (number_in slots name))) [ true ↦ refl | false ↦ slot_member slots name ]
 
-rest_once : (slot : Slot) (slots : List Slot) → HasNamesOnce (slot ∷ slots) → HasNamesOnce slots
+pub rest_once : (slot : Slot) (slots : List Slot) → HasNamesOnce (slot ∷ slots) → HasNamesOnce slots
 rest_once slot slots once = λ i j a b same. let next : suc i ≡ suc j = once (suc i) (suc j) a b same in omega arith
 
-member_at : (slots : List Slot) (name : List ℕ) → is_member name_eq (names_in slots) name ≡ true → (i : ℕ) × (is_used (slot_at slots i) ≡ true) × (name_of (slot_at slots i) ≡ name)
+pub member_at : (slots : List Slot) (name : List ℕ) → is_member name_eq (names_in slots) name ≡ true → (i : ℕ) × (is_used (slot_at slots i) ≡ true) × (name_of (slot_at slots i) ≡ name)
 member_at [] name e = cc
 member_at (Unused ∷ slots) name e = let m = member_at slots name e in (suc m.0, m.1, m.2)
 member_at (Entry number other ∷ slots) name e =

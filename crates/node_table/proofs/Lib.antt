@@ -5,4 +5,6 @@ mod SlotCounts
 mod CountLaws
 mod RefusalLaws
 mod PieceLaws
+mod SlotNumbers
 mod ShapeLaws
+mod RenameShapes

@@ -87,7 +87,7 @@ one_name (a ∷ p) (b ∷ q) x y e =
 pub child_of : (s : Shape) → IsShape s → (p : Path) (name : List ℕ) (x : ℕ × Bool) → s (p ++ name ∷ []) ≡ Some x → (number : ℕ) × (s p ≡ Some (number, true))
 child_of s h p name x e = h.fronts p name [] x e
 
-none_of : {A : Type 0} (o : Option A) → ((x : A) → o ≡ Some x → ⊥) → o ≡ None
+pub none_of : {A : Type 0} (o : Option A) → ((x : A) → o ≡ Some x → ⊥) → o ≡ None
 none_of None f = refl
 none_of (Some x) f = absurd (f x refl)
 

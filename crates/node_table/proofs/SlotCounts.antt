@@ -25,7 +25,7 @@ next_test i n = grind (arith, nat_tests)
 first_test : (n : ℕ) → nat_lt 0 (suc n) ≡ true
 first_test n = grind (arith, nat_tests)
 
-with_next : (head : Slot) (slots : List Slot) (i : ℕ) (slot : Slot) → with_slot (head ∷ slots) (i + 1) slot ≡ head ∷ with_slot slots i slot
+pub with_next : (head : Slot) (slots : List Slot) (i : ℕ) (slot : Slot) → with_slot (head ∷ slots) (i + 1) slot ≡ head ∷ with_slot slots i slot
 with_next head slots i slot =
     ap (λ b. if b then slice_set (head ∷ slots) (i + 1) slot else (head ∷ slots) ++ slot ∷ []) (next_test i (length slots))
     ∙ elim (nat_lt i (length slots)) as (λ b. (if b then slice_set (head ∷ slots) (i + 1) slot else (head ∷ slots) ++ slot ∷ []) ≡ head ∷ (if b then slice_set slots i slot else slots ++ slot ∷ [])) [
@@ -33,7 +33,7 @@ with_next head slots i slot =
       | false ↦ refl
     ]
 
-with_first : (slots : List Slot) (slot : Slot) → with_slot (Unused ∷ slots) 0 slot ≡ slot ∷ slots
+pub with_first : (slots : List Slot) (slot : Slot) → with_slot (Unused ∷ slots) 0 slot ≡ slot ∷ slots
 with_first slots slot = ap (λ b. if b then slot ∷ slots else (Unused ∷ slots) ++ slot ∷ []) (first_test (length slots))
 
 -- an entry more in the first unused slot
@@ -48,15 +48,15 @@ length_with (Unused ∷ slots) number name = ap length (with_first slots (Entry 
 length_with (Entry n other ∷ slots) number name = ap length (with_next (Entry n other) slots (first_unused slots) (Entry number name)) ∙ omega (arith, length_with slots number name)
 
 -- without the entry of a name
-none_mapped : (o : Option ℕ) → option_map (λ (i : ℕ). i + 1) o ≡ None → o ≡ None
+pub none_mapped : (o : Option ℕ) → option_map (λ (i : ℕ). i + 1) o ≡ None → o ≡ None
 none_mapped None e = refl
 none_mapped (Some i) e = cc
 
-some_mapped : (o : Option ℕ) (i : ℕ) → option_map (λ (i : ℕ). i + 1) o ≡ Some i → (j : ℕ) × (o ≡ Some j) × (i ≡ j + 1)
+pub some_mapped : (o : Option ℕ) (i : ℕ) → option_map (λ (i : ℕ). i + 1) o ≡ Some i → (j : ℕ) × (o ≡ Some j) × (i ≡ j + 1)
 some_mapped None i e = cc
 some_mapped (Some j) i e = (j, refl, cc)
 
-set_next : (head : Slot) (slots : List Slot) (i : ℕ) → slice_set (head ∷ slots) (i + 1) Unused ≡ head ∷ slice_set slots i Unused
+pub set_next : (head : Slot) (slots : List Slot) (i : ℕ) → slice_set (head ∷ slots) (i + 1) Unused ≡ head ∷ slice_set slots i Unused
 set_next head slots i = rw add-one refl
 
 pub count_without : (slots : List Slot) (name : List ℕ) (i : ℕ) → slot_of slots name ≡ Some i → count (without_slot slots (Some i)) + 1 ≡ count slots
