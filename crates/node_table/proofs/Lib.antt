@@ -8,3 +8,4 @@ mod PieceLaws
 mod SlotNumbers
 mod ShapeLaws
 mod RenameShapes
+mod GrowLaws

@@ -16,7 +16,7 @@ use Rattle.tree_model.proofs.Fronts.{tie, tie_is, tie_itself, test_fails}
 use Rattle.tree_model.proofs.Numbers.{gives_least}
 use Rattle.tree_model.proofs.Paths.{same_test}
 use Rattle.tree_model.proofs.StepShapes.{used_at}
-use Rattle.node_table.specs.Checks.{IsNext, AllUsed}
+use Rattle.node_table.specs.Numbers.{IsNext, AllUsed}
 use Rattle.node_table.specs.Held.{Nodes, HoldsNodes, held, info, info_of}
 use Rattle.node_table.specs.declared.held.HeldNode.{HeldNode}
 use Rattle.node_table.specs.declared.held.NodeInfo.{NodeInfo}

@@ -19,7 +19,8 @@ use Rattle.tree_model.specs.declared.reply.Reply.{Reply}
 use Rattle.tree_model.specs.declared.reply.Reply.TheVariants.{Done, Data, Entries, Stat as StatOf}
 use Rattle.tree_model.proofs.Accepted.{walked}
 use Rattle.node_table.proofs.NumberLaws.{next_is}
-use Rattle.node_table.specs.Checks.{IsNext, AllUsed, new_place, may_make, file_at, may_size, is_full, may_remove, may_rename, may_list, is_there}
+use Rattle.node_table.specs.Numbers.{IsNext, AllUsed}
+use Rattle.node_table.specs.Checks.{new_place, may_make, file_at, may_size, is_full, may_remove, may_rename, may_list, is_there}
 use Rattle.node_table.specs.Counts.{count}
 use Rattle.node_table.specs.Found.{found, found_of}
 use Rattle.node_table.specs.Held.{Nodes, HoldsNodes, held, info, info_of, slots_of, is_directory}

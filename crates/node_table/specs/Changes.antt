@@ -11,6 +11,7 @@ use Rattle.node_table.specs.declared.held.FoundNode.{FoundNode}
 use Rattle.node_table.specs.declared.held.HeldNode.{HeldNode}
 use Rattle.node_table.specs.declared.held.HeldNode.TheVariants.{File, Directory}
 use Rattle.node_table.specs.Held.{Nodes, held, slots_of}
+use Rattle.node_table.specs.Numbers.{IsNext}
 use Rattle.node_table.specs.Walks.{look}
 
 -- the path leads to the node of this number
@@ -44,7 +45,7 @@ pub record Makes (path : Path) (fresh : HeldNode) (parent slot number : ℕ) (ol
   pub between : Nodes
   pub path_is : path ≡ parent_of path ++ name ∷ []
   pub parent_is : LeadsTo old (parent_of path) parent
-  pub unused : held old number ≡ None
+  pub least : IsNext old number
   pub entry : GetsEntry old parent slot number name between
   pub node : IsSet between number (Some fresh) new
 
@@ -77,12 +78,30 @@ pub record Renames (from to : Path) (number parent slot into into_slot : ℕ) (o
   pub left : LosesEntry old parent slot number name between
   pub came : GetsEntry between into into_slot number into_name new
 
+-- ---- by what the change says
+
+abbrev pub IsMade : Path → HeldNode → Change → Nodes → Nodes → Type 0
+IsMade path fresh (Made parent slot number) old new = Makes path fresh parent slot number old new
+IsMade path fresh change old new = ⊥
+
+abbrev pub IsSized : Path → (ℕ → ℕ) → Change → Nodes → Nodes → Type 0
+IsSized path size_after (Sized number size) old new = Sizes path size_after number size old new
+IsSized path size_after change old new = ⊥
+
+abbrev pub IsRemoved : Path → Change → Nodes → Nodes → Type 0
+IsRemoved path (Removed parent slot number) old new = Removes path parent slot number old new
+IsRemoved path change old new = ⊥
+
+abbrev pub IsRenamed : Path → Path → Change → Nodes → Nodes → Type 0
+IsRenamed from to (Renamed number parent slot into into_slot) old new = Renames from to number parent slot into into_slot old new
+IsRenamed from to change old new = ⊥
+
 -- how the nodes after a command come of those before it
 abbrev pub Does : Command → Change → Nodes → Nodes → Type 0
-Does (Mkdir path) (Made parent slot number) old new = Makes path (Directory []) parent slot number old new
-Does (Create path) (Made parent slot number) old new = Makes path (File 0) parent slot number old new
-Does (Write path offset bytes) (Sized number size) old new = Sizes path (λ before. max before (offset + length bytes)) number size old new
-Does (Truncate path size) (Sized number after) old new = Sizes path (λ _. size) number after old new
-Does (Remove path) (Removed parent slot number) old new = Removes path parent slot number old new
-Does (Rename from to) (Renamed number parent slot into into_slot) old new = Renames from to number parent slot into into_slot old new
+Does (Mkdir path) change old new = IsMade path (Directory []) change old new
+Does (Create path) change old new = IsMade path (File 0) change old new
+Does (Write path offset bytes) change old new = IsSized path (λ before. max before (offset + length bytes)) change old new
+Does (Truncate path size) change old new = IsSized path (λ _. size) change old new
+Does (Remove path) change old new = IsRemoved path change old new
+Does (Rename from to) change old new = IsRenamed from to change old new
 Does command change old new = ⊥

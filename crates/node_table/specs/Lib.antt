@@ -5,4 +5,5 @@ pub mod Counts
 pub mod Found
 pub mod Held
 pub mod Kept
+pub mod Numbers
 pub mod Walks

@@ -6,7 +6,8 @@ ghost use Rattle.tree_model.specs.Step.{refusal_of, make};
 ghost use Rattle.tree_model.specs.Tree.{Tree};
 ghost use Rattle.tree_model.specs.declared.node.Content.{Content};
 ghost use Rattle.node_table.specs.Held.{HoldsNodes};
-ghost use Rattle.node_table.specs.Checks.{is_there, new_place, may_make, file_at, may_size, is_full, may_remove, may_rename, may_list, IsNext, AllUsed};
+ghost use Rattle.node_table.specs.Checks.{is_there, new_place, may_make, file_at, may_size, is_full, may_remove, may_rename, may_list};
+ghost use Rattle.node_table.specs.Numbers.{IsNext, AllUsed};
 
 use crate::held::{FoundNode, HeldNode};
 use crate::table::NodeTable;
