@@ -8,9 +8,10 @@ use Rattle.dir_slots.specs.Slots.{number_in, slot_of, first_unused, with_slot, w
 use Rattle.tree_model.specs.Path.{Path}
 use Rattle.tree_model.specs.Shape.{IsTree, shape_at, shape_of}
 use Rattle.tree_model.specs.Step.{step}
-use Rattle.tree_model.specs.Tree.{Tree, node_at, entries_of, is_used}
+use Rattle.tree_model.specs.Tree.{Tree, node_at, entries_of, is_used, holds_entries}
 use Rattle.tree_model.specs.declared.command.Command.{Command}
 use Rattle.tree_model.specs.declared.node.Node.{Node}
+use Rattle.tree_model.specs.declared.node.Content.{Content}
 use Rattle.tree_model.specs.declared.node.Content.TheVariants as contents
 use Rattle.tree_model.proofs.StepWidths.{keeps_tree, widths_are_greatest, new_directories_are_empty}
 use Rattle.node_table.specs.Counts.{count}
@@ -20,7 +21,8 @@ use Rattle.node_table.specs.declared.held.HeldNode.TheVariants.{File, Directory}
 use Rattle.node_table.specs.declared.held.NodeInfo.TheVariants as infos
 use Rattle.node_table.proofs.CountLaws.{count_is}
 use Rattle.node_table.proofs.RefusalLaws.{AreDirectories}
-use Rattle.node_table.proofs.ShapeLaws.{HoldsShape, number_of}
+use Rattle.node_table.proofs.ShapeLaws.{HoldsShape, kind, number_of}
+use Rattle.node_table.proofs.WalkLaws.{node_of}
 use Rattle.node_table.proofs.SlotCounts.{count_within, count_with, length_with, count_without}
 
 -- A directory has as many slots as it had, and as it has entries.
@@ -43,6 +45,26 @@ pub grown_moved : (slots : List Slot) (fname : List ℕ) (i number : ℕ) (name 
 grown_moved slots fname i number name =
     let left : List Slot = without_slot slots (Some i) in
     record { now = with_slot left (first_unused left) (Entry number name); there = refl; long = omega (arith, length-set slots i Unused, length_with left number name, count_with left number name) }
+
+dir_of : (o : Option HeldNode) → kind o ≡ Some true → o ≡ Some (Directory (slots_of o))
+dir_of None e = cc
+dir_of (Some (File size)) e = let clash : Some false ≡ Some true = e in cc
+dir_of (Some (Directory slots)) e = refl
+
+-- a directory that is left as it was
+pub grown_kept : (o p : Option HeldNode) → kind o ≡ Some true → p ≡ o → Grown (slots_of o) p
+grown_kept o p e same = subst (Grown (slots_of o)) (sym (same ∙ dir_of o e)) (grown_same (slots_of o))
+
+directory_content : (c : Content) → holds_entries c ≡ true → (width : ℕ) × (c ≡ contents.Directory width)
+directory_content (contents.File bytes) e = cc
+directory_content (contents.Directory width) e = (width, refl)
+
+-- the width of a directory
+pub width_at : (tree : Tree) (q : Path) (n : ℕ) → shape_at tree q ≡ Some (n, true) → (width : ℕ) × (node_at tree q ≡ Some (record { number = n; content = contents.Directory width }))
+width_at tree q n e =
+    let d = node_of (node_at tree q) n true e in
+    let c = directory_content d.0.content d.3 in
+    (c.0, d.1 ∙ (λ i. Some (record { number = d.2 i; content = c.1 i })))
 
 some_numbered : (o : Option Node) → is_some (number_of (shape_of o)) ≡ is_some o
 some_numbered None = refl
@@ -72,6 +94,11 @@ module _ (old new : Nodes) (tree : Tree) (h : IsTree tree) (holds : HoldsNodes o
       known None k = cc
       known (Some (File size)) k = cc
       known (Some (Directory slots)) k = let same : infos.Directory (length slots) ≡ infos.Directory before = cc in cc
+
+  -- the same, by its kind before
+  pub width_kept : (p q : Path) (n now : ℕ) → shape_at tree p ≡ Some (n, true) → node_at after q ≡ Some (record { number = n; content = contents.Directory now }) → Grown (slots_of (held old n)) (held new n)
+      → option_map info (held new n) ≡ Some (infos.Directory now)
+  width_kept p q n now was is g = let w = width_at tree p n was in width_old p q n w.0 now w.1 is g
 
   -- the node of a directory that is new
   pub width_new : (q : Path) (n now : ℕ) → is_used tree n ≡ false → node_at after q ≡ Some (record { number = n; content = contents.Directory now }) → held new n ≡ Some (Directory []) → option_map info (held new n) ≡ Some (infos.Directory now)

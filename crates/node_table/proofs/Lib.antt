@@ -9,3 +9,6 @@ mod SlotNumbers
 mod ShapeLaws
 mod RenameShapes
 mod GrowLaws
+mod MakeLaws
+mod SizeLaws
+mod RemoveLaws
