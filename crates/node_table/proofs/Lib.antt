@@ -12,3 +12,4 @@ mod GrowLaws
 mod MakeLaws
 mod SizeLaws
 mod RemoveLaws
+mod RenameTables

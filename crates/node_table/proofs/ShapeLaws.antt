@@ -111,10 +111,10 @@ there_still o p e there = sym (is_some_kind p) ∙ ap is_some (sym e) ∙ is_som
 first_is : (x y : Option (ℕ × Bool)) (n m : ℕ) (a b : Bool) → x ≡ y → x ≡ Some (n, a) → y ≡ Some (m, b) → n ≡ m
 first_is x y n m a b e f g = let same : Some (n, a) ≡ Some (m, b) = sym f ∙ e ∙ g in let pairs : (n, a) ≡ (m, b) = cc in ap (λ (z : ℕ × Bool). z.0) pairs
 
-same_bytes : (a b : List ℕ) → bytes_eq a b ≡ true → a ≡ b
+pub same_bytes : (a b : List ℕ) → bytes_eq a b ≡ true → a ≡ b
 same_bytes a b e = same_name a b e
 
-bytes_itself : (a : List ℕ) → bytes_eq a a ≡ true
+pub bytes_itself : (a : List ℕ) → bytes_eq a a ≡ true
 bytes_itself a = nat_list_eq_equiv.refl a
 
 -- ---- a new node
