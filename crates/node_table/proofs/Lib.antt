@@ -13,3 +13,4 @@ mod MakeLaws
 mod SizeLaws
 mod RemoveLaws
 mod RenameTables
+mod DoesLaws
