@@ -7,6 +7,7 @@ mod RefusalLaws
 mod PieceLaws
 mod SlotNumbers
 mod ShapeLaws
+mod MoveSlots
 mod RenameShapes
 mod GrowLaws
 mod MakeLaws

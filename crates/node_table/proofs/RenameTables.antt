@@ -53,7 +53,7 @@ module _ (old new : Nodes) (tree : Tree) (h : IsTree tree) (holds : HoldsNodes o
   left = without_slot slots (Some slot)
 
   abbrev came : List Slot
-  came = slots_of (held m.between into)
+  came = slots_of (held m.entry.between into)
 
   -- ---- where the nodes are
 
@@ -74,7 +74,7 @@ module _ (old new : Nodes) (tree : Tree) (h : IsTree tree) (holds : HoldsNodes o
 
   number_is : p.node.number ≡ number
   number_is =
-      let named : Some p.node.number ≡ Some number = sym (shape.slots (parent_of from) parent true m.name parent_shape ∙ ap number_of from_shape) ∙ m.left.number_is in
+      let named : Some p.node.number ≡ Some number = sym (shape.slots (parent_of from) parent true m.name parent_shape ∙ ap number_of from_shape) ∙ m.entry.left.number_is in
       cc
 
   node_shape : shape_at tree (parent_of from ++ m.name ∷ []) ≡ Some (number, is_directory p.node)
@@ -88,32 +88,32 @@ module _ (old new : Nodes) (tree : Tree) (h : IsTree tree) (holds : HoldsNodes o
 
   -- ---- what is held
 
-  between_parent : held m.between parent ≡ Some (Directory left)
-  between_parent = set_same old m.between parent _ m.left.set
+  between_parent : held m.entry.between parent ≡ Some (Directory left)
+  between_parent = set_same old m.entry.between parent _ m.entry.left.set
 
-  between_other : (k : ℕ) → k ≢ parent → held m.between k ≡ held old k
-  between_other k ne = set_other old m.between parent _ m.left.set k ne
+  between_other : (k : ℕ) → k ≢ parent → held m.entry.between k ≡ held old k
+  between_other k ne = set_other old m.entry.between parent _ m.entry.left.set k ne
 
   new_into : held new into ≡ Some (Directory (with_slot came (first_unused came) (Entry number m.into_name)))
-  new_into = set_same m.between new into _ m.came.set ∙ ap (λ s. Some (Directory (with_slot came s (Entry number m.into_name)))) m.came.first
+  new_into = set_same m.entry.between new into _ m.entry.came.set ∙ ap (λ s. Some (Directory (with_slot came s (Entry number m.into_name)))) m.entry.came.first
 
-  new_other : (k : ℕ) → k ≢ into → held new k ≡ held m.between k
-  new_other k ne = set_other m.between new into _ m.came.set k ne
+  new_other : (k : ℕ) → k ≢ into → held new k ≡ held m.entry.between k
+  new_other k ne = set_other m.entry.between new into _ m.entry.came.set k ne
 
-  taken : (x : List ℕ) → number_in (slots_of (held m.between parent)) x ≡ (if bytes_eq m.name x then None else number_in slots x)
-  taken x = ap (λ o. number_in (slots_of o) x) between_parent ∙ number_taken slots m.name slot (was_directories parent slots m.left.directory).names m.left.slot_is x
+  taken : (x : List ℕ) → number_in (slots_of (held m.entry.between parent)) x ≡ (if bytes_eq m.name x then None else number_in slots x)
+  taken x = ap (λ o. number_in (slots_of o) x) between_parent ∙ number_taken slots m.name slot (was_directories parent slots m.entry.left.directory).names m.entry.left.slot_is x
 
-  none_taken : (k : ℕ) (x : List ℕ) → number_in (slots_of (held old k)) x ≡ None → number_in (slots_of (held m.between k)) x ≡ None
+  none_taken : (k : ℕ) (x : List ℕ) → number_in (slots_of (held old k)) x ≡ None → number_in (slots_of (held m.entry.between k)) x ≡ None
   none_taken k x none =
       ⊎_elim (λ (is : k ≡ parent).
       let before : number_in slots x ≡ None = ap (λ j. number_in (slots_of (held old j)) x) (sym is) ∙ none in
-      ap (λ j. number_in (slots_of (held m.between j)) x) is ∙ taken x ∙ none_either (bytes_eq m.name x) (number_in slots x) before)
+      ap (λ j. number_in (slots_of (held m.entry.between j)) x) is ∙ taken x ∙ none_either (bytes_eq m.name x) (number_in slots x) before)
       (λ (ne : k ≡ parent → ⊥). ap (λ o. number_in (slots_of o) x) (between_other k ne) ∙ none) (cases_eq k parent)
 
-  between_kept : (k : ℕ) (x : List ℕ) → (k ≡ parent → x ≡ m.name → ⊥) → number_in (slots_of (held m.between k)) x ≡ number_in (slots_of (held old k)) x
+  between_kept : (k : ℕ) (x : List ℕ) → (k ≡ parent → x ≡ m.name → ⊥) → number_in (slots_of (held m.entry.between k)) x ≡ number_in (slots_of (held old k)) x
   between_kept k x ne =
       ⊎_elim (λ (is : k ≡ parent).
-      ap (λ j. number_in (slots_of (held m.between j)) x) is ∙ taken x ∙ ap (λ b. if b then None else number_in slots x) (other_test m.name x (ne is)) ∙ sym (ap (λ j. number_in (slots_of (held old j)) x) is))
+      ap (λ j. number_in (slots_of (held m.entry.between j)) x) is ∙ taken x ∙ ap (λ b. if b then None else number_in slots x) (other_test m.name x (ne is)) ∙ sym (ap (λ j. number_in (slots_of (held old j)) x) is))
       (λ (np : k ≡ parent → ⊥). ap (λ o. number_in (slots_of o) x) (between_other k np)) (cases_eq k parent)
 
   absent : number_in came m.into_name ≡ None
@@ -122,20 +122,20 @@ module _ (old new : Nodes) (tree : Tree) (h : IsTree tree) (holds : HoldsNodes o
   put : (x : List ℕ) → number_in (slots_of (held new into)) x ≡ (if bytes_eq m.into_name x then Some number else number_in came x)
   put x = ap (λ o. number_in (slots_of o) x) new_into ∙ number_put came number m.into_name absent x
 
-  new_kept : (k : ℕ) (x : List ℕ) → (k ≡ into → x ≡ m.into_name → ⊥) → number_in (slots_of (held new k)) x ≡ number_in (slots_of (held m.between k)) x
+  new_kept : (k : ℕ) (x : List ℕ) → (k ≡ into → x ≡ m.into_name → ⊥) → number_in (slots_of (held new k)) x ≡ number_in (slots_of (held m.entry.between k)) x
   new_kept k x ne =
       ⊎_elim (λ (is : k ≡ into).
-      ap (λ j. number_in (slots_of (held new j)) x) is ∙ put x ∙ ap (λ b. if b then Some number else number_in came x) (other_test m.into_name x (ne is)) ∙ sym (ap (λ j. number_in (slots_of (held m.between j)) x) is))
+      ap (λ j. number_in (slots_of (held new j)) x) is ∙ put x ∙ ap (λ b. if b then Some number else number_in came x) (other_test m.into_name x (ne is)) ∙ sym (ap (λ j. number_in (slots_of (held m.entry.between j)) x) is))
       (λ (np : k ≡ into → ⊥). ap (λ o. number_in (slots_of o) x) (new_other k np)) (cases_eq k into)
 
-  between_kinds : (k : ℕ) → kind (held m.between k) ≡ kind (held old k)
+  between_kinds : (k : ℕ) → kind (held m.entry.between k) ≡ kind (held old k)
   between_kinds k =
-      ⊎_elim (λ (is : k ≡ parent). ap (λ j. kind (held m.between j)) is ∙ ap kind between_parent ∙ sym (ap kind m.left.directory) ∙ sym (ap (λ j. kind (held old j)) is))
+      ⊎_elim (λ (is : k ≡ parent). ap (λ j. kind (held m.entry.between j)) is ∙ ap kind between_parent ∙ sym (ap kind m.entry.left.directory) ∙ sym (ap (λ j. kind (held old j)) is))
       (λ (ne : k ≡ parent → ⊥). ap kind (between_other k ne)) (cases_eq k parent)
 
   kinds : (k : ℕ) → kind (held new k) ≡ kind (held old k)
   kinds k =
-      ⊎_elim (λ (is : k ≡ into). ap (λ j. kind (held new j)) is ∙ ap kind new_into ∙ sym (ap kind m.came.directory) ∙ sym (ap (λ j. kind (held m.between j)) is))
+      ⊎_elim (λ (is : k ≡ into). ap (λ j. kind (held new j)) is ∙ ap kind new_into ∙ sym (ap kind m.entry.came.directory) ∙ sym (ap (λ j. kind (held m.entry.between j)) is))
       (λ (ne : k ≡ into → ⊥). ap kind (new_other k ne)) (cases_eq k into)
       ∙ between_kinds k
 
@@ -171,7 +171,7 @@ module _ (old new : Nodes) (tree : Tree) (h : IsTree tree) (holds : HoldsNodes o
   into_grown : Grown (slots_of (held old into)) (held new into)
   into_grown =
       ⊎_elim (λ (is : into ≡ parent).
-      let same : came ≡ left = ap (λ k. slots_of (held m.between k)) is ∙ ap slots_of between_parent in
+      let same : came ≡ left = ap (λ k. slots_of (held m.entry.between k)) is ∙ ap slots_of between_parent in
       subst (λ (k : ℕ). Grown (slots_of (held old k)) (held new into)) (sym is)
       (subst (Grown slots) (sym (new_into ∙ ap (λ s. Some (Directory (with_slot s (first_unused s) (Entry number m.into_name)))) same)) (grown_moved slots m.name slot number m.into_name)))
       (λ (ne : into ≡ parent → ⊥).
@@ -184,7 +184,7 @@ module _ (old new : Nodes) (tree : Tree) (h : IsTree tree) (holds : HoldsNodes o
       ⊎_elim (λ (is : n ≡ into). subst (λ (k : ℕ). Grown (slots_of (held old k)) (held new k)) (sym is) into_grown)
       (λ (ne : n ≡ into → ⊥).
       ⊎_elim (λ (is : n ≡ parent). subst (λ (k : ℕ). Grown (slots_of (held old k)) (held new k)) (sym is)
-      (subst (Grown slots) (sym (new_other parent (λ same. ne (is ∙ same)) ∙ between_parent)) (grown_taken slots m.name slot m.left.slot_is)))
+      (subst (Grown slots) (sym (new_other parent (λ same. ne (is ∙ same)) ∙ between_parent)) (grown_taken slots m.name slot m.entry.left.slot_is)))
       (λ (np : n ≡ parent → ⊥). grown_kept (held old n) (held new n) (shape.kinds q n true was) (new_other n ne ∙ between_other n np))
       (cases_eq n parent))
       (cases_eq n into)

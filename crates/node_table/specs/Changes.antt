@@ -39,6 +39,12 @@ pub record LosesEntry (old : Nodes) (parent slot number : ℕ) (name : List ℕ)
   pub number_is : number_in (slots_of (held old parent)) name ≡ Some number
   pub set : IsSet old parent (Some (Directory (without_slot (slots_of (held old parent)) (Some slot)))) new
 
+-- an entry leaves one directory and then comes into another, or the same
+pub record MovesEntry (old : Nodes) (parent slot into into_slot number : ℕ) (name into_name : List ℕ) (new : Nodes) : Type 0 where
+  pub between : Nodes
+  pub left : LosesEntry old parent slot number name between
+  pub came : GetsEntry between into into_slot number into_name new
+
 -- a new node: its directory gets an entry, and its number the node
 pub record Makes (path : Path) (fresh : HeldNode) (parent slot number : ℕ) (old new : Nodes) : Type 0 where
   pub name : List ℕ
@@ -66,17 +72,15 @@ pub record Removes (path : Path) (parent slot number : ℕ) (old new : Nodes) : 
   pub entry : LosesEntry old parent slot number name between
   pub node : IsSet between number None new
 
--- a node renamed: the one directory loses its entry before the other gets it, which may be the same
+-- a node renamed: its entry moves
 pub record Renames (from to : Path) (number parent slot into into_slot : ℕ) (old new : Nodes) : Type 0 where
   pub name : List ℕ
   pub into_name : List ℕ
-  pub between : Nodes
   pub from_is : from ≡ parent_of from ++ name ∷ []
   pub to_is : to ≡ parent_of to ++ into_name ∷ []
   pub parent_is : LeadsTo old (parent_of from) parent
   pub into_is : LeadsTo old (parent_of to) into
-  pub left : LosesEntry old parent slot number name between
-  pub came : GetsEntry between into into_slot number into_name new
+  pub entry : MovesEntry old parent slot into into_slot number name into_name new
 
 -- ---- by what the change says
 

@@ -5,5 +5,6 @@ pub mod Counts
 pub mod Found
 pub mod Held
 pub mod Kept
+pub mod Moves
 pub mod Numbers
 pub mod Walks

@@ -1,13 +1,21 @@
 //! A directory with how many entries it has.
-ghost use Rattle.std.specs.Prelude.{◌≡◌, ◌<◌, ◌≤◌, None, IfOk, OnErr, length};
+ghost use Rattle.std.specs.Prelude.{◌≡◌, ◌<◌, ◌≤◌, Some, None, IfOk, OnErr, length};
 ghost use Rattle.block_format.specs.declared.slot.Slot.TheVariants.{Entry};
 ghost use Rattle.dir_slots.specs.Slots.{IsDirectory, number_in, slot_of, first_unused, with_slot, without_slot};
 ghost use Rattle.node_table.specs.Counts.{count};
+ghost use Rattle.node_table.specs.Moves.{MovesName};
 
 use dir_slots::Directory;
 use std::alloc::{AllocError, Global};
 use std::marker::Model;
 use vol_numbers::{InoNo, Name};
+
+/// The slot that an entry left, and the one that it came into.
+#[derive(Clone, Copy)]
+pub(crate) struct MovedSlots {
+    pub left: u32,
+    pub came: u32,
+}
 
 /// A directory whose entries are counted.
 #[derive(Drop)]
@@ -97,5 +105,36 @@ impl CountedDirectory {
         self.entries -= 1;
         let _width = self.directory.width();
         Some(slot)
+    }
+
+    /// Gives the entry of one name another name. Its slot is free before the new entry takes the first unused one.
+    pub(crate) fn rename(
+        &mut self,
+        from: &Name,
+        to: &Name,
+        number: InoNo,
+    ) -> Result<MovedSlots, AllocError>
+        requires there { number_in self.old from.now ≡ Some number }
+        requires absent { slot_of self.old to.now ≡ None }
+        requires number { 1 ≤ number }
+        requires at_most { number ≤ 65535 }
+        ensures moved { IfOk result (λ moved. MovesName self.old from.now number to.now moved self.new) }
+        ensures directory { IsDirectory self.new }
+        ensures unchanged { OnErr result (self.new ≡ self.old) }
+    {
+        let _width = self.directory.width();
+        let Some(left) = self.directory.slot_of(from) else {
+            unreachable!();
+        };
+        let came = self.directory.first_unused();
+        if came < left {
+            self.directory.add(to, number)?;
+            self.directory.remove(from);
+            let _width = self.directory.width();
+            return Ok(MovedSlots { left, came });
+        }
+        self.directory.replace(from, to);
+        let _width = self.directory.width();
+        Ok(MovedSlots { left, came: left })
     }
 }
