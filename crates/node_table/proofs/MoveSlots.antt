@@ -1,13 +1,15 @@
 -- An entry that gets another name: put first and taken then, or the other way round.
 use Rattle.std.proofs.Common.{◌≡◌, ◌≢◌, ◌≤◌, ◌<◌, ℕ, ◌+◌, zero, suc, Bool, true, false, List, [], ◌∷◌, ◌++◌, length, Some, None, refl, sym, ap, subst, ◌∙◌, arith, add-one, cond, length-set}
-use Rattle.std.specs.Prelude.{Option, is_some, nat_lt, slice_set, if◌then◌else◌, bytes_eq}
+use Rattle.std.specs.Prelude.{Option, IfSome, is_some, nat_lt, slice_set, if◌then◌else◌, bytes_eq}
 use Rattle.std.specs.Option.{option_map}
 use Rattle.std.proofs.lemmas.Bool.Decides.{nat_tests}
 use Rattle.block_format.specs.declared.slot.Slot.{Slot}
 use Rattle.block_format.specs.declared.slot.Slot.TheVariants.{Unused, Entry}
-use Rattle.dir_slots.specs.Slots.{number_in, slot_of, first_unused, with_slot, without_slot}
+use Rattle.dir_slots.specs.Slots.{number_in, slot_of, first_unused, with_slot, without_slot, ReplacesName}
 use Rattle.tree_model.proofs.Fronts.{test_fails}
 use Rattle.node_table.specs.Counts.{count}
+use Rattle.node_table.specs.Moves.{MovesName}
+use Rattle.node_table.specs.declared.counted.MovedSlots.{MovedSlots}
 use Rattle.node_table.proofs.ShapeLaws.{same_bytes}
 use Rattle.node_table.proofs.SlotCounts.{with_next, with_first, count_with, count_without, some_mapped}
 use Rattle.node_table.proofs.SlotNumbers.{some_slot}
@@ -87,3 +89,40 @@ module _ (slots : List Slot) (from : List ℕ) (number : ℕ) (to : List ℕ) (l
   pub count_moved : (came : ℕ) → came ≡ first_unused (without_slot slots (Some left)) → count (with_slot (without_slot slots (Some left)) came (Entry number to)) ≡ count slots
   count_moved came is =
       ap (λ i. count (with_slot (without_slot slots (Some left)) i (Entry number to))) is ∙ count_with (without_slot slots (Some left)) number to ∙ count_without slots from left there
+
+pub some_is : (P : ℕ → Type 0) (o : Option ℕ) (x : ℕ) → o ≡ Some x → IfSome o P → P x
+some_is P None x e h = cc
+some_is P (Some y) x e h = let same : y ≡ x = cc in subst P same h
+
+-- a name with a number has a slot
+pub has_slot : (slots : List Slot) (name : List ℕ) (number : ℕ) → number_in slots name ≡ Some number → slot_of slots name ≡ None → ⊥
+has_slot slots name number some none = let same : is_some (slot_of slots name) ≡ is_some (number_in slots name) = some_slot slots name in let yes : is_some (number_in slots name) ≡ true = ap is_some some in let no : is_some (slot_of slots name) ≡ false = ap is_some none in cc
+
+-- the new entry came first
+pub moved_apart : (slots mid new : List Slot) (from : List ℕ) (number : ℕ) (to : List ℕ) (left came : ℕ) → slot_of slots from ≡ Some left → slot_of slots to ≡ None → came ≡ first_unused slots → came < left
+    → (slot : ℕ) → slot ≡ first_unused slots → mid ≡ with_slot slots slot (Entry number to) → new ≡ without_slot mid (slot_of mid from) → MovesName slots from number to (record { left = left; came = came }) new
+moved_apart slots mid new from number to left came there absent is lt slot first put taken =
+    let lt_first : first_unused slots < left = omega arith in
+    let mid_is : mid ≡ with_slot slots (first_unused slots) (Entry number to) = put ∙ ap (λ i. with_slot slots i (Entry number to)) first in
+    record {
+      left = there;
+      came = is ∙ first_before slots from number to left there absent lt_first;
+      now = taken ∙ ap (λ s. without_slot s (slot_of s from)) mid_is ∙ came_first slots from number to left there absent lt_first ∙ ap (λ i. with_slot (without_slot slots (Some left)) i (Entry number to)) (sym is);
+    }
+
+-- the entry stays in its slot
+pub moved_within : (slots new : List Slot) (from : List ℕ) (number : ℕ) (to : List ℕ) (left : ℕ) → slot_of slots from ≡ Some left → slot_of slots to ≡ None → number_in slots from ≡ Some number → left ≤ first_unused slots
+    → ReplacesName slots left from to new → MovesName slots from number to (record { left = left; came = left }) new
+moved_within slots new from number to left there absent numbered le replaced =
+    let same : replaced.0 ≡ number = some_same (sym replaced.1 ∙ numbered) in
+    record {
+      left = there;
+      came = first_itself slots from number to left there absent le;
+      now = replaced.2 ∙ ap (λ n. with_slot (without_slot slots (Some left)) left (Entry n to)) same;
+    }
+  where
+    some_same : Some replaced.0 ≡ Some number → replaced.0 ≡ number
+    some_same e = cc
+
+pub count_same_moved : (slots new : List Slot) (from : List ℕ) (number : ℕ) (to : List ℕ) (moved : MovedSlots) → slot_of slots to ≡ None → MovesName slots from number to moved new → count new ≡ count slots
+count_same_moved slots new from number to moved absent m = ap count m.now ∙ count_moved slots from number to moved.left m.left absent moved.came m.came
