@@ -1,10 +1,10 @@
 -- A directory has as many used slots as its node has entries.
-use Rattle.std.proofs.Common.{◌≡◌, ℕ, suc, zero, Bool, true, false, not, cond, List, [], ◌∷◌, ◌++◌, length, map, Some, None, refl, sym, ap, subst, ◌∙◌, arith}
+use Rattle.std.proofs.Common.{◌≡◌, ◌≤◌, ℕ, suc, zero, Bool, true, false, not, cond, List, [], ◌∷◌, ◌++◌, length, map, Some, None, refl, sym, ap, subst, ◌∙◌, arith}
 use Rattle.std.specs.Prelude.{Option, is_some, filter, bytes_eq, ◌||◌}
 use Rattle.std.specs.List.{IsDistinct, AllByRecursion, list_any, cons_option}
 use Rattle.std.specs.Set.{is_member}
 use Rattle.std.specs.Cmp.Lexicographic.{nat_list_eq_equiv}
-use Rattle.std.proofs.lemmas.Map.Made.{length-from_same_keys}
+use Rattle.std.proofs.lemmas.Map.Made.{length-from_same_keys, length-le_from_is_member}
 use Rattle.block_format.specs.declared.slot.Slot.{Slot}
 use Rattle.block_format.specs.declared.slot.Slot.TheVariants.{Unused, Entry}
 use Rattle.dir_slots.specs.Slots.{HasNamesOnce, is_used, name_of, number_in, slot_at}
@@ -138,3 +138,24 @@ count_is slots tree q once ordered same =
     sym (names_length slots)
     ∙ length-from_same_keys nat_list_eq_equiv (names_in slots) (names_of tree q) (slots_distinct slots once) (entries_distinct tree ordered q) (λ name. slot_member slots name ∙ same name ∙ sym (entry_member tree q name))
     ∙ entries_length (entries_of tree q)
+
+distinct_more : (x : List ℕ) (xs : List (List ℕ)) → AllByRecursion (λ y. name_eq x y ≡ false) xs → IsDistinct name_eq xs → IsDistinct name_eq (x ∷ xs)
+unfolding IsDistinct
+distinct_more x xs none rest = (none, rest)
+
+-- a directory that has each entry of another and one name more
+pub more_entries : (s t : Tree) (q : Path) (name : List ℕ) → IsOrdered s → node_at s (q ++ name ∷ []) ≡ None → is_some (node_at t (q ++ name ∷ [])) ≡ true
+    → ((x : List ℕ) → is_some (node_at s (q ++ x ∷ [])) ≡ true → is_some (node_at t (q ++ x ∷ [])) ≡ true) → suc (length (entries_of s q)) ≤ length (entries_of t q)
+more_entries s t q name ordered none there all =
+    let longer = length-le_from_is_member nat_list_eq_equiv (name ∷ names_of s q) (names_of t q) (one_more (none_like name (names_of s q) (entry_member s q name ∙ ap is_some none)) (entries_distinct s ordered q)) member in
+    omega (arith, longer, entries_length (entries_of s q), entries_length (entries_of t q))
+  where
+    one_more : AllByRecursion (λ y. name_eq name y ≡ false) (names_of s q) → IsDistinct name_eq (names_of s q) → IsDistinct name_eq (name ∷ names_of s q)
+    one_more none rest = distinct_more name (names_of s q) none rest
+
+    member : (x : List ℕ) → is_member name_eq (name ∷ names_of s q) x ≡ true → is_member name_eq (names_of t q) x ≡ true
+    member x e =
+        elim (name_eq x name) as (λ b. name_eq x name ≡ b → (b || is_member name_eq (names_of s q) x) ≡ true → is_member name_eq (names_of t q) x ≡ true) [
+          | true ↦ λ same more. ap (is_member name_eq (names_of t q)) (same_name x name same) ∙ entry_member t q name ∙ there
+          | false ↦ λ other more. entry_member t q x ∙ all x (sym (entry_member s q x) ∙ more)
+        ] refl e

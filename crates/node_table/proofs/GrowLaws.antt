@@ -46,7 +46,7 @@ grown_moved slots fname i number name =
     let left : List Slot = without_slot slots (Some i) in
     record { now = with_slot left (first_unused left) (Entry number name); there = refl; long = omega (arith, length-set slots i Unused, length_with left number name, count_with left number name) }
 
-dir_of : (o : Option HeldNode) → kind o ≡ Some true → o ≡ Some (Directory (slots_of o))
+pub dir_of : (o : Option HeldNode) → kind o ≡ Some true → o ≡ Some (Directory (slots_of o))
 dir_of None e = cc
 dir_of (Some (File size)) e = let clash : Some false ≡ Some true = e in cc
 dir_of (Some (Directory slots)) e = refl

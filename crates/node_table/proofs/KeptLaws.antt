@@ -24,7 +24,7 @@ pub set_other : (old new : Nodes) (number : ℕ) (o : Option HeldNode) → IsSet
 set_other old new number o h k ne = let no : nat_eq k number ≡ false = grind (arith, nat_tests) in h k ∙ ap (λ b. if b then o else held old k) no
 
 -- what is in a list after one element is set
-list_set : (nodes : Nodes) (number : ℕ) (o : Option HeldNode) → number < length nodes → IsSet nodes number o (set nodes number o)
+pub list_set : (nodes : Nodes) (number : ℕ) (o : Option HeldNode) → number < length nodes → IsSet nodes number o (set nodes number o)
 list_set nodes number o lt k =
     elim (nat_eq k number) as (λ b. nat_eq k number ≡ b → held (set nodes number o) k ≡ (if b then o else held nodes k)) [
       | true ↦ λ e. ap (λ j. held (set nodes number o) j) (eqb-true k number e) ∙ get_or-set_same nodes number o None lt

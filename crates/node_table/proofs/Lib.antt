@@ -7,6 +7,7 @@ mod RefusalLaws
 mod PieceLaws
 mod SlotNumbers
 mod ShapeLaws
+mod MoveLaws
 mod MoveSlots
 mod RenameShapes
 mod GrowLaws
@@ -15,3 +16,5 @@ mod SizeLaws
 mod RemoveLaws
 mod RenameTables
 mod DoesLaws
+mod ReadyLaws
+mod AcceptedLaws

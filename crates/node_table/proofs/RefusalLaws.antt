@@ -141,7 +141,7 @@ module _ (nodes : Nodes) (tree : Tree) (h : IsTree tree) (holds : HoldsNodes nod
       count_is slots tree path (directories node.number slots there).names h.ordered
       (λ name. ap is_some (ap (λ o. number_in (slots_of o) name) (sym there) ∙ holds.slots path node name is) ∙ some_number (node_at tree (path ++ name ∷ [])))
 
-  full_is : AreDirectories nodes → (path : Path) (node : Node) → node_at tree path ≡ Some node → is_full nodes (found_of node) ≡ (trees.is_directory node && has_entries tree path)
+  pub full_is : AreDirectories nodes → (path : Path) (node : Node) → node_at tree path ≡ Some node → is_full nodes (found_of node) ≡ (trees.is_directory node && has_entries tree path)
   full_is directories path node is = by e.0 e.1 node.content refl e.2
     where
       e : (entry : HeldNode) × (held nodes node.number ≡ Some entry) × (info entry ≡ info_of node.content)

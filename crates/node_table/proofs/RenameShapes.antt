@@ -18,7 +18,7 @@ pub record NodesRenamed (old new : Nodes) (f : ℕ) (fname : List ℕ) (t : ℕ)
   pub others : (k : ℕ) (x : List ℕ) → (k ≡ t → x ≡ tname → ⊥) → (k ≡ f → x ≡ fname → ⊥) → number_in (slots_of (held new k)) x ≡ number_in (slots_of (held old k)) x
 
 -- where a path of one name more goes on from another, it is that path or goes on from there without the name
-split_last : (q p r : Path) (x : List ℕ) → q ++ x ∷ [] ≡ p ++ r → (q ++ x ∷ [] ≡ p) ⊎ ((m : Path) × (q ≡ p ++ m))
+pub split_last : (q p r : Path) (x : List ℕ) → q ++ x ∷ [] ≡ p ++ r → (q ++ x ∷ [] ≡ p) ⊎ ((m : Path) × (q ≡ p ++ m))
 split_last q [] r x e = inr (q, refl)
 split_last [] (y ∷ []) r x e = let heads : x ≡ y = cc in inl (ap (λ z. z ∷ []) heads)
 split_last [] (y ∷ z ∷ p) r x e = cc

@@ -111,7 +111,7 @@ impl NodeTable {
         Ok(found.number)
     }
 
-    fn may_write(&self, path: &Path, offset: u64, bytes: &[u8]) -> Result<InoNo, Refusal>
+    pub(crate) fn may_write(&self, path: &Path, offset: u64, bytes: &[u8]) -> Result<InoNo, Refusal>
         ensures { result ≡ may_size self.now path.now (offset + length bytes.now) }
     {
         let number = self.file_at(path)?;

@@ -2,6 +2,7 @@
 #![tactic(auto)]
 
 mod change;
+mod changes;
 mod checks;
 mod counted;
 mod held;
