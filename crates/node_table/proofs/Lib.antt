@@ -18,3 +18,4 @@ mod RenameTables
 mod DoesLaws
 mod ReadyLaws
 mod AcceptedLaws
+mod NewLaws

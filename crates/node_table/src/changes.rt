@@ -12,14 +12,13 @@ ghost use Rattle.node_table.specs.Kept.{Fits};
 ghost use Rattle.node_table.specs.declared.held.HeldNode.TheVariants.{File};
 
 use crate::change::Change;
-use crate::counted::CountedDirectory;
+use crate::counted::empty_directory;
 use crate::held::HeldNode;
 use crate::table::NodeTable;
-use dir_slots::{DirFault, Directory};
-use std::alloc::{AllocError, Global};
+use std::alloc::AllocError;
 use tree_model::path_names::parent_names;
 use tree_model::{Command, Path};
-use vol_numbers::{InoNo, Name, PageList};
+use vol_numbers::{InoNo, Name};
 
 impl NodeTable {
     /// Does a change that isn't refused, and says what it was. Want of memory leaves the table as it is.
@@ -167,17 +166,6 @@ impl NodeTable {
             to: plan.to,
             to_slot: moved.came,
         })
-    }
-}
-
-fn empty_directory(alloc: Global) -> Result<CountedDirectory, AllocError>
-    ensures { IfOk result (λ directory. directory ≡ []) }
-{
-    let pages = PageList::new(alloc);
-    match Directory::read(alloc, &pages, 0) {
-        Ok(directory) => CountedDirectory::new(alloc, directory),
-        Err(DirFault::OutOfMemory) => Err(AllocError),
-        Err(DirFault::BadSlots) => unreachable!(),
     }
 }
 

@@ -1,14 +1,14 @@
 //! A directory with how many entries it has.
-ghost use Rattle.std.specs.Prelude.{◌≡◌, ◌<◌, ◌≤◌, Some, None, IfOk, OnErr, length};
+ghost use Rattle.std.specs.Prelude.{◌≡◌, ◌<◌, ◌≤◌, Some, None, [], IfOk, OnErr, length};
 ghost use Rattle.block_format.specs.declared.slot.Slot.TheVariants.{Entry};
 ghost use Rattle.dir_slots.specs.Slots.{IsDirectory, number_in, slot_of, first_unused, with_slot, without_slot};
 ghost use Rattle.node_table.specs.Counts.{count};
 ghost use Rattle.node_table.specs.Moves.{MovesName};
 
-use dir_slots::Directory;
+use dir_slots::{DirFault, Directory};
 use std::alloc::{AllocError, Global};
 use std::marker::Model;
-use vol_numbers::{InoNo, Name};
+use vol_numbers::{InoNo, Name, PageList};
 
 /// The slot that an entry left, and the one that it came into.
 #[derive(Clone, Copy)]
@@ -136,5 +136,17 @@ impl CountedDirectory {
         self.directory.replace(from, to);
         let _width = self.directory.width();
         Ok(MovedSlots { left, came: left })
+    }
+}
+
+/// The directory with no slot.
+pub(crate) fn empty_directory(alloc: Global) -> Result<CountedDirectory, AllocError>
+    ensures { IfOk result (λ directory. directory ≡ []) }
+{
+    let pages = PageList::new(alloc);
+    match Directory::read(alloc, &pages, 0) {
+        Ok(directory) => CountedDirectory::new(alloc, directory),
+        Err(DirFault::OutOfMemory) => Err(AllocError),
+        Err(DirFault::BadSlots) => unreachable!(),
     }
 }

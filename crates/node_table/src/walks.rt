@@ -10,7 +10,7 @@ use tree_model::Refusal;
 use vol_numbers::{InoNo, Name};
 
 /// The number of the root.
-const ROOT: InoNo = 1;
+pub(crate) const ROOT: InoNo = 1;
 
 impl NodeTable {
     /// The node that a path leads to.
