@@ -19,3 +19,4 @@ mod DoesLaws
 mod ReadyLaws
 mod AcceptedLaws
 mod NewLaws
+mod ListLaws

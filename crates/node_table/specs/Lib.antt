@@ -5,6 +5,7 @@ pub mod Counts
 pub mod Found
 pub mod Held
 pub mod Kept
+pub mod Listing
 pub mod Moves
 pub mod Numbers
 pub mod Walks

@@ -6,6 +6,7 @@ mod changes;
 mod checks;
 mod counted;
 mod held;
+mod listing;
 mod nodes;
 mod table;
 mod walks;
