@@ -1,9 +1,9 @@
 -- What a table that accepts a change has for it, by what its checks answer.
-use Rattle.std.proofs.Common.{◌≡◌, ◌≢◌, ◌≤◌, ◌<◌, ℕ, ◌+◌, ◌-◌, suc, true, false, not, List, [], ◌∷◌, ◌++◌, length, Some, None, refl, sym, ap, subst, ◌∙◌, arith, sub-one}
-use Rattle.std.specs.Prelude.{Option, Ok, Err, Result, is_some, nat_lt, MatchOption, slice_index_or}
+use Rattle.std.proofs.Common.{◌≡◌, ◌≢◌, ◌≤◌, ◌<◌, ℕ, ◌+◌, ◌-◌, true, false, List, [], ◌∷◌, ◌++◌, length, Some, None, refl, sym, ap, subst, ◌∙◌, arith}
+use Rattle.std.specs.Prelude.{Option, Ok, Err, nat_lt, MatchOption, slice_index_or}
 use Rattle.std.specs.Option.{option_map}
 use Rattle.std.specs.Result.{result_err}
-use Rattle.dir_slots.specs.Slots.{number_in, slot_of, first_unused, IsDirectory}
+use Rattle.dir_slots.specs.Slots.{number_in, slot_of, first_unused}
 use Rattle.tree_model.specs.Path.{Path, is_root, parent_of}
 use Rattle.tree_model.specs.Shape.{IsTree, shape_of}
 use Rattle.tree_model.specs.Step.{◌>>=◌, refuse_if}
@@ -16,7 +16,7 @@ use Rattle.tree_model.specs.declared.refusal.Refusal.TheVariants.{TooBig, IsADir
 use Rattle.tree_model.specs.declared.refusal.Refusal.{Refusal}
 use Rattle.node_table.specs.Accepted.{IsAccepted}
 use Rattle.node_table.specs.Changes.{HoldsSlots, LeadsTo}
-use Rattle.node_table.specs.Checks.{may_make, may_size, file_at, may_remove, may_rename}
+use Rattle.node_table.specs.Checks.{may_make, may_size, may_remove, may_rename}
 use Rattle.node_table.specs.Found.{found_of}
 use Rattle.node_table.specs.Held.{Nodes, HoldsNodes, held, info, info_of, slots_of}
 use Rattle.node_table.specs.Held as table
@@ -28,10 +28,10 @@ use Rattle.node_table.specs.declared.held.FoundNode.{FoundNode}
 use Rattle.node_table.specs.declared.held.HeldNode.{HeldNode}
 use Rattle.node_table.specs.declared.held.HeldNode.TheVariants.{File, Directory}
 use Rattle.node_table.proofs.NumberLaws.{next_is}
-use Rattle.node_table.proofs.PieceLaws.{make_pieces, write_pieces, truncate_pieces, remove_pieces, rename_pieces, SizePieces, ok_of}
-use Rattle.node_table.proofs.RefusalLaws.{AreDirectories, write_same, truncate_same}
+use Rattle.node_table.proofs.PieceLaws.{make_pieces, write_pieces, truncate_pieces, remove_pieces, rename_pieces, SizePieces}
+use Rattle.node_table.proofs.RefusalLaws.{AreDirectories}
 use Rattle.node_table.proofs.ReadyLaws.{directory_held, leads_to, make_place, make_absent, make_room, remove_place, is_in, rename_place, rename_absent, rename_room}
-use Rattle.node_table.proofs.WalkLaws.{look_there, entry_of}
+use Rattle.node_table.proofs.WalkLaws.{look_there}
 
 -- ---- the last name of a path
 

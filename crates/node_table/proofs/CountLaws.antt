@@ -1,7 +1,7 @@
 -- A directory has as many used slots as its node has entries.
-use Rattle.std.proofs.Common.{◌≡◌, ◌≤◌, ℕ, suc, zero, Bool, true, false, not, cond, List, [], ◌∷◌, ◌++◌, length, map, Some, None, refl, sym, ap, subst, ◌∙◌, arith}
-use Rattle.std.specs.Prelude.{Option, is_some, filter, bytes_eq, ◌||◌}
-use Rattle.std.specs.List.{IsDistinct, AllByRecursion, list_any, cons_option}
+use Rattle.std.proofs.Common.{◌≡◌, ◌≤◌, ℕ, suc, true, false, cond, List, [], ◌∷◌, ◌++◌, length, map, Some, None, refl, sym, ap, subst, ◌∙◌, arith}
+use Rattle.std.specs.Prelude.{Option, is_some, filter, ◌||◌}
+use Rattle.std.specs.List.{IsDistinct, AllByRecursion, cons_option}
 use Rattle.std.specs.Set.{is_member}
 use Rattle.std.specs.Cmp.Lexicographic.{nat_list_eq_equiv}
 use Rattle.std.proofs.lemmas.Map.Made.{length-from_same_keys, length-le_from_is_member}
@@ -11,7 +11,6 @@ use Rattle.dir_slots.specs.Slots.{HasNamesOnce, is_used, name_of, number_in, slo
 use Rattle.tree_model.specs.Order.{IsOrdered}
 use Rattle.tree_model.specs.Path.{Path, name_eq, strip}
 use Rattle.tree_model.specs.Tree.{Tree, node_at, entries_of, entry_below}
-use Rattle.tree_model.specs.declared.node.Node.{Node}
 use Rattle.tree_model.specs.declared.reply.Entry as entries
 use Rattle.tree_model.proofs.EntryCounts.{ordered_rest}
 use Rattle.tree_model.proofs.Fronts.{tie, tie_is, tie_itself, test_fails, strip_is, strip_back}

@@ -1,5 +1,5 @@
 -- A change that is done as it is said leaves nodes that hold the tree after it.
-use Rattle.std.proofs.Common.{◌≡◌, ℕ, ◌+◌, Bool, true, false, List, [], ◌∷◌, ◌++◌, length, Some, None, refl, sym, ap, subst, ◌∙◌, arith, length-append, length-drop}
+use Rattle.std.proofs.Common.{◌≡◌, ℕ, ◌+◌, true, List, [], ◌∷◌, ◌++◌, length, None, refl, sym, subst, ◌∙◌, arith, length-append, length-drop}
 use Rattle.std.specs.Prelude.{max}
 use Rattle.tree_model.specs.Path.{Path}
 use Rattle.tree_model.specs.Shape.{IsTree}
@@ -10,7 +10,7 @@ use Rattle.tree_model.specs.declared.command.Command.TheVariants.{Mkdir, Create,
 use Rattle.tree_model.specs.declared.node.Content.TheVariants as contents
 use Rattle.tree_model.proofs.ByteLaws.{length_resized}
 use Rattle.node_table.specs.Changes.{Does, IsMade, IsSized, IsRemoved, IsRenamed}
-use Rattle.node_table.specs.Held.{Nodes, HoldsNodes, info, info_of, slots_of}
+use Rattle.node_table.specs.Held.{Nodes, HoldsNodes}
 use Rattle.node_table.specs.declared.change.Change.{Change}
 use Rattle.node_table.specs.declared.change.Change.TheVariants.{Made, Sized, Removed, Renamed}
 use Rattle.node_table.specs.declared.held.HeldNode.TheVariants.{File, Directory}

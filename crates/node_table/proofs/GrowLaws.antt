@@ -1,6 +1,6 @@
 -- How many slots a directory has after a change, and that its width is as many.
-use Rattle.std.proofs.Common.{◌≡◌, ◌≢◌, ◌≤◌, ℕ, ◌+◌, Bool, true, false, List, [], ◌∷◌, ◌++◌, length, Some, None, refl, sym, ap, subst, ◌∙◌, arith, length-set}
-use Rattle.std.specs.Prelude.{Option, is_some, max, slice_set}
+use Rattle.std.proofs.Common.{◌≡◌, ℕ, true, false, List, [], ◌∷◌, ◌++◌, length, Some, None, refl, sym, ap, subst, ◌∙◌, arith, length-set}
+use Rattle.std.specs.Prelude.{Option, is_some, max}
 use Rattle.std.specs.Option.{option_map}
 use Rattle.block_format.specs.declared.slot.Slot.{Slot}
 use Rattle.block_format.specs.declared.slot.Slot.TheVariants.{Unused, Entry}
@@ -15,7 +15,7 @@ use Rattle.tree_model.specs.declared.node.Content.{Content}
 use Rattle.tree_model.specs.declared.node.Content.TheVariants as contents
 use Rattle.tree_model.proofs.StepWidths.{keeps_tree, widths_are_greatest, new_directories_are_empty}
 use Rattle.node_table.specs.Counts.{count}
-use Rattle.node_table.specs.Held.{Nodes, HoldsNodes, held, info, info_of, slots_of}
+use Rattle.node_table.specs.Held.{Nodes, HoldsNodes, held, info, slots_of}
 use Rattle.node_table.specs.declared.held.HeldNode.{HeldNode}
 use Rattle.node_table.specs.declared.held.HeldNode.TheVariants.{File, Directory}
 use Rattle.node_table.specs.declared.held.NodeInfo.TheVariants as infos

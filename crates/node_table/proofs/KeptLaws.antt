@@ -1,5 +1,5 @@
 -- What is kept beside the nodes, after one node is set.
-use Rattle.std.proofs.Common.{◌≡◌, ◌≢◌, ◌≤◌, ◌<◌, ℕ, ◌+◌, Bool, true, false, not, cond, List, length, Some, None, refl, sym, ap, subst, ◌∙◌, arith, ⊎_elim, set, get_or-set_same, get_or-set_other, length-set}
+use Rattle.std.proofs.Common.{◌≡◌, ◌≢◌, ◌≤◌, ◌<◌, ℕ, Bool, true, false, not, List, length, Some, None, refl, sym, ap, subst, ◌∙◌, arith, ⊎_elim, set, get_or-set_same, get_or-set_other, length-set}
 use Rattle.std.specs.Prelude.{Option, is_some, nat_eq, ◌||◌, ◌&&◌, if◌then◌else◌}
 use Rattle.std.specs.Cmp.{nat_cmp_total}
 use Rattle.std.specs.Ordering.{nat_cmp, eq_by_cmp}
@@ -13,7 +13,7 @@ use Rattle.node_table.specs.Changes.{IsSet}
 use Rattle.node_table.specs.Held.{Nodes, held}
 use Rattle.node_table.specs.Kept.{IsKept, Fits}
 use Rattle.node_table.specs.declared.held.HeldNode.{HeldNode}
-use Rattle.node_table.specs.declared.held.HeldNode.TheVariants.{File, Directory}
+use Rattle.node_table.specs.declared.held.HeldNode.TheVariants.{Directory}
 
 -- ---- one number set
 

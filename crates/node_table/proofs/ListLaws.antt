@@ -1,25 +1,21 @@
 -- What a table says of a node is what the tree says.
-use Rattle.std.proofs.Common.{◌≡◌, ℕ, Bool, true, false, List, [], ◌∷◌, ◌++◌, length, Some, None, refl, sym, ap, subst, ◌∙◌}
-use Rattle.std.specs.Prelude.{Option, Result, Ok, Err}
-use Rattle.std.specs.Option.{option_map}
+use Rattle.std.proofs.Common.{◌≡◌, Some, refl, sym, ap, ◌∙◌}
+use Rattle.std.specs.Prelude.{Result, Ok, Err}
 use Rattle.tree_model.specs.Path.{Path}
 use Rattle.tree_model.specs.Shape.{IsTree}
 use Rattle.tree_model.specs.Step.{◌>>=◌, walk, stat, size_of}
-use Rattle.tree_model.specs.Tree.{Tree, node_at, kind_of, entries_of}
+use Rattle.tree_model.specs.Tree.{Tree, node_at, kind_of}
 use Rattle.tree_model.specs.declared.node.Node.{Node}
 use Rattle.tree_model.specs.declared.node.Content.{Content}
 use Rattle.tree_model.specs.declared.node.Content.TheVariants as contents
 use Rattle.tree_model.specs.declared.refusal.Refusal.{Refusal}
-use Rattle.tree_model.specs.declared.reply.Reply.{Reply}
 use Rattle.tree_model.specs.declared.reply.Reply.TheVariants.{Stat}
 use Rattle.tree_model.proofs.Accepted.{walked}
 use Rattle.node_table.specs.Found.{found, found_of}
-use Rattle.node_table.specs.Held.{Nodes, HoldsNodes, held, info, info_of, slots_of}
+use Rattle.node_table.specs.Held.{Nodes, HoldsNodes, held, info_of, slots_of}
 use Rattle.node_table.specs.Listing.{kind_in, size_in, stat_of}
 use Rattle.node_table.specs.Walks.{look}
 use Rattle.node_table.specs.declared.held.FoundNode.{FoundNode}
-use Rattle.node_table.specs.declared.held.HeldNode.{HeldNode}
-use Rattle.node_table.specs.declared.held.HeldNode.TheVariants.{File, Directory}
 use Rattle.node_table.proofs.ReadyLaws.{directory_held}
 use Rattle.node_table.proofs.RefusalLaws.{AreDirectories, count_same}
 use Rattle.node_table.proofs.WalkLaws.{look_is}

@@ -1,6 +1,6 @@
 -- The nodes after a new one hold the tree after it.
 use Rattle.std.proofs.Common.{◌≡◌, ◌≢◌, ℕ, Bool, true, false, List, [], ◌∷◌, ◌++◌, length, Some, None, refl, sym, ap, subst, ◌∙◌, inl, inr, ⊎_elim, cond}
-use Rattle.std.specs.Prelude.{Option, Ok, is_some, if◌then◌else◌}
+use Rattle.std.specs.Prelude.{Option, Ok, is_some}
 use Rattle.std.specs.Option.{option_map}
 use Rattle.std.proofs.lemmas.Bool.{cases_eq}
 use Rattle.block_format.specs.declared.slot.Slot.{Slot}
@@ -9,7 +9,7 @@ use Rattle.dir_slots.specs.Slots.{number_in, first_unused, with_slot}
 use Rattle.tree_model.specs.Path.{Path, parent_of}
 use Rattle.tree_model.specs.Shape.{IsTree, shape_at, shape_of}
 use Rattle.tree_model.specs.Step.{step}
-use Rattle.tree_model.specs.Tree.{Tree, node_at, with_node, is_used, holds_entries}
+use Rattle.tree_model.specs.Tree.{Tree, node_at, with_node, holds_entries}
 use Rattle.tree_model.specs.declared.command.Command.{Command}
 use Rattle.tree_model.specs.declared.node.Node.{Node}
 use Rattle.tree_model.specs.declared.node.Content.{Content}

@@ -1,7 +1,7 @@
 -- An entry that moves, as a directory that loses it and one that gets it then.
-use Rattle.std.proofs.Common.{◌≡◌, ◌≢◌, ◌<◌, ℕ, Bool, true, false, List, [], ◌∷◌, length, Some, None, refl, sym, ap, subst, ◌∙◌, inl, inr, ⊎_elim, set}
+use Rattle.std.proofs.Common.{◌≡◌, ◌≢◌, ◌<◌, ℕ, true, false, List, length, Some, None, refl, sym, ap, subst, ◌∙◌, ⊎_elim, set}
 use Rattle.std.specs.Prelude.{Option, Result, Ok, Err, IfOk, IsSome, is_some, nat_eq, if◌then◌else◌}
-use Rattle.std.proofs.lemmas.Bool.{cases_eq, eqb-true, eq-eqb}
+use Rattle.std.proofs.lemmas.Bool.{cases_eq, eqb-true}
 use Rattle.std.proofs.lemmas.Bool.Decides.{nat_tests}
 use Rattle.std.proofs.Common.{arith, rules}
 use Rattle.std.specs.declared.alloc.AllocError.{AllocError}
@@ -10,7 +10,7 @@ use Rattle.block_format.specs.declared.slot.Slot.TheVariants.{Entry}
 use Rattle.dir_slots.specs.Slots.{number_in, slot_of, first_unused, with_slot, without_slot}
 use Rattle.node_table.specs.Changes.{IsSet, HoldsSlots, GetsEntry, LosesEntry, MovesEntry}
 use Rattle.node_table.specs.Held.{Nodes, held, slots_of}
-use Rattle.node_table.specs.Moves.{MovesName, MovesWithin}
+use Rattle.node_table.specs.Moves.{MovesWithin}
 use Rattle.node_table.specs.declared.counted.MovedSlots.{MovedSlots}
 use Rattle.node_table.specs.declared.held.HeldNode.{HeldNode}
 use Rattle.node_table.specs.declared.held.HeldNode.TheVariants.{Directory}

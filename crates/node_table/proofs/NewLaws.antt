@@ -1,6 +1,6 @@
 -- The table with the root alone.
-use Rattle.std.proofs.Common.{◌≡◌, ◌≢◌, ℕ, Bool, true, false, List, [], ◌∷◌, ◌++◌, length, Some, None, refl, sym, ap, subst, ◌∙◌, ⊎_elim}
-use Rattle.std.specs.Prelude.{Option, is_some, nat_eq, ◌||◌}
+use Rattle.std.proofs.Common.{◌≡◌, ◌≢◌, ℕ, false, List, [], ◌∷◌, ◌++◌, length, Some, None, refl, sym, ap, subst, ◌∙◌, ⊎_elim}
+use Rattle.std.specs.Prelude.{is_some, nat_eq, ◌||◌}
 use Rattle.std.specs.Option.{option_map}
 use Rattle.std.specs.Cmp.{nat_cmp_total}
 use Rattle.std.specs.Ordering.{nat_cmp, eq_by_cmp}
@@ -10,13 +10,12 @@ use Rattle.std.proofs.lemmas.Bool.{cases_eq}
 use Rattle.std.proofs.lemmas.Bool.Decides.{nat_tests}
 use Rattle.dir_slots.specs.Slots.{number_in}
 use Rattle.tree_model.specs.Path.{Path}
-use Rattle.tree_model.specs.Tree.{Tree, new_tree, node_at}
+use Rattle.tree_model.specs.Tree.{new_tree, node_at}
 use Rattle.tree_model.specs.declared.node.Node.{Node}
 use Rattle.tree_model.specs.declared.node.Content.TheVariants as contents
 use Rattle.node_table.specs.Held.{Nodes, HoldsNodes, held, info, info_of, slots_of}
 use Rattle.node_table.specs.Kept.{IsKept}
-use Rattle.node_table.specs.declared.held.HeldNode.{HeldNode}
-use Rattle.node_table.specs.declared.held.HeldNode.TheVariants.{File, Directory}
+use Rattle.node_table.specs.declared.held.HeldNode.TheVariants.{Directory}
 
 -- no node, and 0 set apart
 pub kept_none : (nodes : Nodes) (used : sets.FinSet nat_cmp) → length nodes ≡ 65536 → ((k : ℕ) → held nodes k ≡ None) → used ≡ sets.insert sets.empty 0 → IsKept nodes used

@@ -1,5 +1,5 @@
 -- The numbers that a table gives are those that the tree gives.
-use Rattle.std.proofs.Common.{◌≡◌, ℕ, ◌≤◌, ◌<◌, ◌+◌, suc, Bool, true, false, not, cond, List, [], ◌∷◌, ◌++◌, length, Some, None, refl, sym, ap, subst, ◌∙◌, arith, inl, inr, ⊎_elim}
+use Rattle.std.proofs.Common.{◌≡◌, ℕ, ◌≤◌, ◌<◌, ◌+◌, suc, Bool, true, false, not, cond, [], ◌∷◌, length, Some, None, refl, sym, ap, subst, ◌∙◌, arith, ⊎_elim}
 use Rattle.std.specs.Prelude.{Option, is_some, nat_eq, ◌||◌, MatchOption}
 use Rattle.std.specs.Option.{option_map}
 use Rattle.std.specs.FinMap.Entries.{length_without}
@@ -7,7 +7,7 @@ use Rattle.std.proofs.lemmas.Bool.{cases_lt, cases_eq, eqb-true}
 use Rattle.tree_model.specs.Path.{Path, path_cmp}
 use Rattle.tree_model.specs.Laws.{IsLeastUnused}
 use Rattle.tree_model.specs.Order.{IsOrdered}
-use Rattle.tree_model.specs.Shape.{IsTree, shape_at, shape_of}
+use Rattle.tree_model.specs.Shape.{IsTree, shape_of}
 use Rattle.tree_model.specs.Tree.{Tree, node_at, without, is_used, least_unused, is_directory}
 use Rattle.tree_model.specs.declared.node.Node.{Node}
 use Rattle.tree_model.proofs.AttemptLaws.{path_total, true_T}
@@ -17,7 +17,7 @@ use Rattle.tree_model.proofs.Numbers.{gives_least}
 use Rattle.tree_model.proofs.Paths.{same_test}
 use Rattle.tree_model.proofs.StepShapes.{used_at}
 use Rattle.node_table.specs.Numbers.{IsNext, AllUsed}
-use Rattle.node_table.specs.Held.{Nodes, HoldsNodes, held, info, info_of}
+use Rattle.node_table.specs.Held.{Nodes, HoldsNodes, held, info}
 use Rattle.node_table.specs.declared.held.HeldNode.{HeldNode}
 use Rattle.node_table.specs.declared.held.NodeInfo.{NodeInfo}
 use Rattle.node_table.proofs.WalkLaws.{node_of}

@@ -1,6 +1,6 @@
 -- What is known of a tree that accepts a command, and the tree after it.
-use Rattle.std.proofs.Common.{◌≡◌, ℕ, ◌+◌, Bool, true, false, not, List, [], ◌∷◌, ◌++◌, length, Some, None, refl, sym, ap, ◌∙◌}
-use Rattle.std.specs.Prelude.{Option, Result, Ok, Err, is_some, nat_lt, ◌&&◌}
+use Rattle.std.proofs.Common.{◌≡◌, ℕ, ◌+◌, true, false, not, List, length, Some, None, refl, sym, ap, ◌∙◌}
+use Rattle.std.specs.Prelude.{Result, Ok, Err, is_some, nat_lt, ◌&&◌}
 use Rattle.std.specs.Result.{result_err}
 use Rattle.tree_model.specs.Path.{Path, is_root, parent_of, strip}
 use Rattle.tree_model.specs.Step.{◌>>=◌, step, attempt, settled, refuse_if, or_refuse, walk, bytes_of, has_entries, make, remove, rename, write, written_tree, truncate}
@@ -8,7 +8,7 @@ use Rattle.tree_model.specs.Tree.{Tree, node_at, with_node, without, widened, mo
 use Rattle.tree_model.specs.declared.command.Command.{Command}
 use Rattle.tree_model.specs.declared.node.Node.{Node}
 use Rattle.tree_model.specs.declared.node.Content.{Content}
-use Rattle.tree_model.specs.declared.node.Content.TheVariants.{File, Directory}
+use Rattle.tree_model.specs.declared.node.Content.TheVariants.{File}
 use Rattle.tree_model.specs.declared.refusal.Refusal.{Refusal}
 use Rattle.tree_model.specs.declared.refusal.Refusal.TheVariants.{NotADirectory, Exists, RootFixed, Inside, NotEmpty, TooBig, NoNumbers}
 use Rattle.tree_model.specs.declared.reply.Reply.{Reply}

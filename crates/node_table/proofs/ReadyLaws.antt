@@ -1,34 +1,29 @@
 -- What a change finds in a table that holds a tree which accepts it.
-use Rattle.std.proofs.Common.{◌≡◌, ◌≢◌, ◌≤◌, ◌<◌, ℕ, Bool, true, false, not, cond, List, [], ◌∷◌, ◌++◌, length, Some, None, refl, sym, ap, subst, ◌∙◌, arith, inl, inr, append_assoc, append-nil}
-use Rattle.std.specs.Prelude.{Option, Ok, Err, Result, is_some, nat_lt, ◌&&◌}
-use Rattle.std.specs.Result.{result_err}
-use Rattle.std.specs.Option.{option_map}
+use Rattle.std.proofs.Common.{◌≡◌, ◌≤◌, ◌<◌, ℕ, Bool, true, false, not, cond, List, [], ◌∷◌, ◌++◌, length, Some, None, refl, sym, ap, ◌∙◌, arith, inl, inr, append_assoc, append-nil}
+use Rattle.std.specs.Prelude.{Option, Ok, is_some}
 use Rattle.dir_slots.specs.Slots.{number_in, slot_of, first_unused}
 use Rattle.tree_model.specs.Path.{Path, is_root, parent_of, strip}
 use Rattle.tree_model.specs.Shape.{IsTree, shape_at, shape_of, after_rename}
-use Rattle.tree_model.specs.Step.{◌>>=◌, refuse_if, step, has_entries, refusal_of}
+use Rattle.tree_model.specs.Step.{◌>>=◌, refuse_if, step}
 use Rattle.tree_model.specs.Tree.{Tree, node_at, with_node, entries_of, holds_entries, widened, moved}
 use Rattle.tree_model.specs.Tree as trees
-use Rattle.tree_model.specs.declared.command.Command.TheVariants.{Create, Remove, Rename}
+use Rattle.tree_model.specs.declared.command.Command.TheVariants.{Create, Rename}
 use Rattle.tree_model.specs.declared.node.Node.{Node}
 use Rattle.tree_model.specs.declared.node.Content.TheVariants as contents
-use Rattle.tree_model.specs.declared.refusal.Refusal.{Refusal}
 use Rattle.tree_model.specs.declared.refusal.Refusal.TheVariants.{NotADirectory, Exists, RootFixed, Inside, NotEmpty}
 use Rattle.tree_model.proofs.EntryCounts.{few_entries, total_is}
-use Rattle.tree_model.proofs.Fronts.{tie, tie_same, decide, strip_is, strip_none, no_longer}
+use Rattle.tree_model.proofs.Fronts.{tie, tie_same, strip_none}
 use Rattle.tree_model.proofs.Renames.{at_below, at_other, none_left}
 use Rattle.tree_model.proofs.Shapes.{with_shape}
 use Rattle.tree_model.proofs.StepShapes.{put_shape, widened_shape, moved_shape, is_clear}
 use Rattle.tree_model.proofs.StepWidths.{keeps_tree}
-use Rattle.node_table.specs.Accepted.{IsAccepted}
 use Rattle.node_table.specs.Changes.{HoldsSlots, LeadsTo}
 use Rattle.node_table.specs.Checks.{new_place, may_make, may_remove, may_rename, is_full}
 use Rattle.node_table.specs.Found.{found_of}
-use Rattle.node_table.specs.Held.{Nodes, HoldsNodes, held, info, info_of, slots_of, is_directory}
-use Rattle.node_table.specs.Walks.{look}
+use Rattle.node_table.specs.Held.{Nodes, HoldsNodes, held, info_of, slots_of, is_directory}
 use Rattle.node_table.proofs.CountLaws.{more_entries}
 use Rattle.node_table.proofs.GrowLaws.{dir_of}
-use Rattle.node_table.proofs.PieceLaws.{MakePieces, RemovePieces, RenamePieces, step_is, made}
+use Rattle.node_table.proofs.PieceLaws.{MakePieces, RemovePieces, RenamePieces, step_is}
 use Rattle.node_table.proofs.RefusalLaws.{AreDirectories, count_same, full_is}
 use Rattle.node_table.proofs.ShapeLaws.{holds_shape, number_of, child_of, one_name}
 use Rattle.node_table.proofs.RenameShapes.{split_last}
@@ -129,14 +124,16 @@ is_in nodes tree h holds path node is name path_is =
     let shape : shape_at tree (parent_of path ++ name ∷ []) ≡ Some (node.number, trees.is_directory node) = ap (shape_at tree) (sym path_is) ∙ ap shape_of is in
     let front = child_of (shape_at tree) h.shape (parent_of path) name _ shape in
     let d = node_of (node_at tree (parent_of path)) front.0 true front.1 in
-    let within = h.shape.numbered path (node.number, trees.is_directory node) (ap shape_of is) in
-    (d.0, record {
-      above_is = d.1;
-      directory = directory_held nodes tree h holds (parent_of path) d.0 d.1 d.3;
-      number_is = numbered nodes tree h holds (parent_of path) d.0 name d.1 (Some (node.number, trees.is_directory node)) shape;
-      at_least = within.0;
-      at_most = within.1;
-    })
+    let within = h.shape.numbered path (node.number, trees.is_directory node) (ap shape_of is) in (
+      d.0,
+      record {
+        above_is = d.1;
+        directory = directory_held nodes tree h holds (parent_of path) d.0 d.1 d.3;
+        number_is = numbered nodes tree h holds (parent_of path) d.0 name d.1 (Some (node.number, trees.is_directory node)) shape;
+        at_least = within.0;
+        at_most = within.1;
+      },
+    )
 
 -- ---- a node renamed
 

@@ -1,5 +1,5 @@
 -- A table refuses what its tree refuses.
-use Rattle.std.proofs.Common.{◌≡◌, ℕ, ◌+◌, Bool, true, false, not, List, [], ◌∷◌, ◌++◌, length, take, drop, Some, None, refl, sym, ap, subst, ◌∙◌}
+use Rattle.std.proofs.Common.{◌≡◌, ℕ, ◌+◌, Bool, true, false, not, List, [], ◌∷◌, ◌++◌, length, take, drop, Some, None, refl, sym, ap, ◌∙◌}
 use Rattle.std.specs.Prelude.{Option, Result, Ok, Err, is_some, nat_eq, nat_lt, ◌&&◌, MatchOption}
 use Rattle.std.specs.Option.{option_map}
 use Rattle.std.specs.Result.{result_err}
@@ -20,7 +20,7 @@ use Rattle.tree_model.specs.declared.reply.Reply.TheVariants.{Done, Data, Entrie
 use Rattle.tree_model.proofs.Accepted.{walked}
 use Rattle.node_table.proofs.NumberLaws.{next_is}
 use Rattle.node_table.specs.Numbers.{IsNext, AllUsed}
-use Rattle.node_table.specs.Checks.{new_place, may_make, file_at, may_size, is_full, may_remove, may_rename, may_list, is_there}
+use Rattle.node_table.specs.Checks.{new_place, may_make, file_at, may_size, is_full, may_remove, may_rename, may_list}
 use Rattle.node_table.specs.Counts.{count}
 use Rattle.node_table.specs.Found.{found, found_of}
 use Rattle.node_table.specs.Held.{Nodes, HoldsNodes, held, info, info_of, slots_of, is_directory}
@@ -30,7 +30,7 @@ use Rattle.node_table.specs.declared.held.FoundNode.{FoundNode}
 use Rattle.node_table.specs.declared.held.HeldNode.{HeldNode}
 use Rattle.node_table.specs.declared.held.HeldNode.TheVariants.{File, Directory}
 use Rattle.node_table.proofs.CountLaws.{count_is}
-use Rattle.node_table.proofs.WalkLaws.{look_is, there_is, same_kind, entry_of}
+use Rattle.node_table.proofs.WalkLaws.{look_is, there_is, entry_of}
 
 -- what a tree does at the place of a new path
 abbrev pub place : {Y : Type 0} → Tree → Path → Result Y Refusal → Result Y Refusal

@@ -1,6 +1,5 @@
 -- The nodes after one is gone hold the tree after it.
-use Rattle.std.proofs.Common.{◌≡◌, ◌≢◌, ℕ, Bool, true, false, not, List, [], ◌∷◌, ◌++◌, length, Some, None, refl, sym, ap, subst, ◌∙◌, inl, inr, ⊎_elim, cond}
-use Rattle.std.specs.Prelude.{Option, is_some, if◌then◌else◌}
+use Rattle.std.proofs.Common.{◌≡◌, ◌≢◌, ℕ, true, false, not, List, [], ◌∷◌, ◌++◌, Some, None, refl, sym, ap, subst, ◌∙◌, ⊎_elim, cond}
 use Rattle.std.specs.Option.{option_map}
 use Rattle.std.proofs.lemmas.Bool.{cases_eq}
 use Rattle.block_format.specs.declared.slot.Slot.{Slot}
@@ -12,14 +11,12 @@ use Rattle.tree_model.specs.Tree.{Tree, node_at, without, is_directory}
 use Rattle.tree_model.specs.declared.command.Command.{Command}
 use Rattle.tree_model.specs.declared.node.Node.{Node}
 use Rattle.tree_model.specs.declared.node.Content.TheVariants as contents
-use Rattle.tree_model.proofs.Fronts.{tie, tie_is, test_fails, tie_itself}
+use Rattle.tree_model.proofs.Fronts.{tie, tie_itself}
 use Rattle.tree_model.proofs.Lookups.{without_at}
 use Rattle.tree_model.proofs.Shapes.{without_shape}
 use Rattle.node_table.specs.Changes.{Removes}
 use Rattle.node_table.specs.Held.{Nodes, HoldsNodes, held, info, info_of, slots_of}
-use Rattle.node_table.specs.declared.held.HeldNode.{HeldNode}
-use Rattle.node_table.specs.declared.held.HeldNode.TheVariants.{File, Directory}
-use Rattle.node_table.specs.declared.held.NodeInfo.TheVariants as infos
+use Rattle.node_table.specs.declared.held.HeldNode.TheVariants.{Directory}
 use Rattle.node_table.proofs.GrowLaws.{Grown, grown_taken, grown_kept, width_kept}
 use Rattle.node_table.proofs.KeptLaws.{set_same, set_other}
 use Rattle.node_table.proofs.MakeLaws.{leads_is}

@@ -1,6 +1,6 @@
 -- The nodes after a rename hold the tree after it.
-use Rattle.std.proofs.Common.{◌≡◌, ◌≢◌, ℕ, Bool, true, false, not, List, [], ◌∷◌, ◌++◌, length, Some, None, refl, sym, ap, subst, ◌∙◌, inl, inr, ⊎_elim, cond, append_assoc, append-nil}
-use Rattle.std.specs.Prelude.{Option, is_some, bytes_eq, if◌then◌else◌}
+use Rattle.std.proofs.Common.{◌≡◌, ◌≢◌, ℕ, Bool, true, false, List, [], ◌∷◌, ◌++◌, Some, None, refl, sym, ap, subst, ◌∙◌, ⊎_elim, append_assoc, append-nil}
+use Rattle.std.specs.Prelude.{Option, bytes_eq, if◌then◌else◌}
 use Rattle.std.specs.Option.{option_map}
 use Rattle.std.proofs.lemmas.Bool.{cases_eq}
 use Rattle.block_format.specs.declared.slot.Slot.{Slot}
@@ -19,8 +19,7 @@ use Rattle.tree_model.proofs.Renames.{origin, none_left, at_other}
 use Rattle.tree_model.proofs.StepShapes.{is_clear, moved_shape, widened_shape}
 use Rattle.node_table.specs.Changes.{Renames}
 use Rattle.node_table.specs.Held.{Nodes, HoldsNodes, held, info, info_of, slots_of}
-use Rattle.node_table.specs.declared.held.HeldNode.{HeldNode}
-use Rattle.node_table.specs.declared.held.HeldNode.TheVariants.{File, Directory}
+use Rattle.node_table.specs.declared.held.HeldNode.TheVariants.{Directory}
 use Rattle.node_table.proofs.GrowLaws.{Grown, grown_put, grown_taken, grown_moved, grown_kept, width_kept}
 use Rattle.node_table.proofs.KeptLaws.{set_same, set_other}
 use Rattle.node_table.proofs.MakeLaws.{leads_is, file_clash}

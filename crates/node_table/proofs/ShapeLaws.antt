@@ -1,24 +1,20 @@
 -- What is held of the shape of a tree, after a node is made, taken away or renamed.
-use Rattle.std.proofs.Common.{◌≡◌, ◌≢◌, ℕ, Bool, true, false, not, cond, List, [], ◌∷◌, ◌++◌, Some, None, refl, sym, ap, subst, ◌∙◌, inl, inr, ⊎_elim, append_assoc, append-nil}
-use Rattle.std.specs.Prelude.{Option, is_some, nat_eq, bytes_eq, if◌then◌else◌}
+use Rattle.std.proofs.Common.{◌≡◌, ◌≢◌, ℕ, Bool, true, false, not, cond, List, [], ◌∷◌, ◌++◌, Some, None, refl, sym, ap, subst, ◌∙◌, inl, inr, ⊎_elim, append-nil}
+use Rattle.std.specs.Prelude.{Option, is_some, bytes_eq, if◌then◌else◌}
 use Rattle.std.specs.Option.{option_map}
-use Rattle.std.proofs.lemmas.Bool.{cases_eq, eqb-true, eq-eqb}
-use Rattle.std.proofs.lemmas.List.{append_cancel_left}
+use Rattle.std.proofs.lemmas.Bool.{cases_eq}
 use Rattle.std.specs.Cmp.Lexicographic.{nat_list_eq_equiv}
-use Rattle.block_format.specs.declared.slot.Slot.{Slot}
 use Rattle.dir_slots.specs.Slots.{number_in}
-use Rattle.tree_model.specs.Path.{Path, name_eq, strip, parent_of, is_root}
-use Rattle.tree_model.specs.Shape.{IsShape, IsTree, shape_at, shape_of, after_rename}
+use Rattle.tree_model.specs.Path.{Path}
+use Rattle.tree_model.specs.Shape.{IsShape, shape_at, shape_of}
 use Rattle.tree_model.specs.Tree.{Tree, node_at}
 use Rattle.tree_model.specs.Tree as trees
 use Rattle.tree_model.specs.declared.node.Node.{Node}
-use Rattle.tree_model.proofs.Fronts.{tie, tie_is, tie_same, tie_itself, test_fails, decide, strip_is, strip_back, strip_none, no_longer}
+use Rattle.tree_model.proofs.Fronts.{tie, tie_is, tie_same, tie_itself, test_fails, decide, no_longer}
 use Rattle.tree_model.proofs.Paths.{same_name}
-use Rattle.tree_model.proofs.Renames.{Came, origin, none_left, at_below, at_other, at_left}
 use Rattle.tree_model.proofs.Shapes.{Shape, with_shape, without_shape}
 use Rattle.node_table.specs.Held.{Nodes, HoldsNodes, held, info, info_of, slots_of, is_directory}
 use Rattle.node_table.specs.declared.held.HeldNode.{HeldNode}
-use Rattle.node_table.specs.declared.held.HeldNode.TheVariants.{File, Directory}
 use Rattle.node_table.proofs.WalkLaws.{same_kind, node_of}
 
 abbrev pub kind : Option HeldNode → Option Bool

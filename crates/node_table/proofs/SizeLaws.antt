@@ -1,6 +1,5 @@
 -- The nodes after a file got another size hold the tree after it.
-use Rattle.std.proofs.Common.{◌≡◌, ◌≢◌, ℕ, Bool, true, false, List, [], ◌∷◌, ◌++◌, length, Some, None, refl, sym, ap, subst, ◌∙◌, inl, inr, ⊎_elim, cond}
-use Rattle.std.specs.Prelude.{Option, is_some}
+use Rattle.std.proofs.Common.{◌≡◌, ◌≢◌, ℕ, true, List, length, Some, sym, ap, subst, ◌∙◌, inl, inr, ⊎_elim, cond}
 use Rattle.std.specs.Option.{option_map}
 use Rattle.std.proofs.lemmas.Bool.{cases_eq}
 use Rattle.dir_slots.specs.Slots.{number_in}
@@ -14,8 +13,7 @@ use Rattle.tree_model.proofs.Fronts.{tie, tie_same, decide}
 use Rattle.tree_model.proofs.StepShapes.{same_put}
 use Rattle.node_table.specs.Changes.{Sizes}
 use Rattle.node_table.specs.Held.{Nodes, HoldsNodes, held, info, info_of, slots_of}
-use Rattle.node_table.specs.declared.held.HeldNode.{HeldNode}
-use Rattle.node_table.specs.declared.held.HeldNode.TheVariants.{File, Directory}
+use Rattle.node_table.specs.declared.held.HeldNode.TheVariants.{File}
 use Rattle.node_table.specs.declared.held.NodeInfo.TheVariants as infos
 use Rattle.node_table.proofs.KeptLaws.{set_same, set_other}
 use Rattle.node_table.proofs.MakeLaws.{leads_is}

@@ -1,5 +1,5 @@
 -- The numbers that names have, after an entry is put and after one is taken away.
-use Rattle.std.proofs.Common.{◌≡◌, ℕ, ◌+◌, zero, suc, Bool, true, false, not, List, [], ◌∷◌, Some, None, refl, sym, ap, subst, ◌∙◌, arith, cond}
+use Rattle.std.proofs.Common.{◌≡◌, ℕ, ◌+◌, suc, Bool, true, false, List, [], ◌∷◌, Some, None, refl, sym, ap, ◌∙◌, arith}
 use Rattle.std.specs.Prelude.{Option, is_some, bytes_eq, if◌then◌else◌, slice_set}
 use Rattle.std.specs.Option.{option_map}
 use Rattle.std.specs.Set.{is_member}
@@ -12,7 +12,7 @@ use Rattle.tree_model.proofs.Fronts.{test_fails}
 use Rattle.tree_model.proofs.Paths.{same_name}
 use Rattle.node_table.proofs.CountLaws.{names_in, slot_member, member_at, rest_once}
 use Rattle.node_table.proofs.ShapeLaws.{none_of}
-use Rattle.node_table.proofs.SlotCounts.{with_next, with_first, set_next, some_mapped, none_mapped}
+use Rattle.node_table.proofs.SlotCounts.{with_next, with_first, set_next, some_mapped}
 
 -- ---- numbers and slots of names
 

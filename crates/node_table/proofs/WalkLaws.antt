@@ -1,13 +1,13 @@
 -- Where the slots of a table lead is where the paths of its tree lead.
-use Rattle.std.proofs.Common.{◌≡◌, ℕ, Bool, true, false, not, List, [], ◌∷◌, ◌++◌, Some, None, refl, sym, ap, subst, ◌∙◌}
+use Rattle.std.proofs.Common.{◌≡◌, ℕ, Bool, true, false, List, [], ◌∷◌, ◌++◌, Some, None, refl, sym, ap, subst, ◌∙◌}
 use Rattle.std.specs.Prelude.{Option, Result, Ok, Err, is_some}
 use Rattle.std.specs.Option.{option_map}
 use Rattle.std.specs.Result.{result_ok}
 use Rattle.std.proofs.lemmas.List.{append_assoc, append-nil}
 use Rattle.dir_slots.specs.Slots.{number_in}
 use Rattle.tree_model.specs.Path.{Path}
-use Rattle.tree_model.specs.Shape.{IsTree, shape_at, shape_of}
-use Rattle.tree_model.specs.Step.{◌>>=◌, or_refuse, refuse_if, walk, walk_from}
+use Rattle.tree_model.specs.Shape.{IsTree, shape_of}
+use Rattle.tree_model.specs.Step.{◌>>=◌, or_refuse, walk, walk_from}
 use Rattle.tree_model.specs.Tree.{Tree, node_at, holds_entries}
 use Rattle.tree_model.specs.Tree as trees
 use Rattle.tree_model.specs.declared.node.Node.{Node}

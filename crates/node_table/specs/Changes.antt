@@ -1,5 +1,5 @@
 -- What a change does to the nodes, as numbers and slots.
-use Rattle.std.specs.Prelude.{◌≡◌, ℕ, ◌+◌, max, true, false, if◌then◌else◌, List, [], ◌∷◌, ◌++◌, length, nat_eq, Option, Some, None, Ok}
+use Rattle.std.specs.Prelude.{◌≡◌, ℕ, ◌+◌, max, if◌then◌else◌, List, [], ◌∷◌, ◌++◌, length, nat_eq, Option, Some, None, Ok}
 use Rattle.block_format.specs.declared.slot.Slot.TheVariants.{Entry}
 use Rattle.dir_slots.specs.Slots.{first_unused, slot_of, number_in, with_slot, without_slot}
 use Rattle.tree_model.specs.Path.{Path, parent_of}

@@ -1,5 +1,5 @@
 -- Why a table refuses a command, and else the numbers that its change needs, in words of private functions alone.
-use Rattle.std.specs.Prelude.{◌≡◌, ◌≤◌, ◌<◌, ℕ, ◌+◌, Bool, true, false, not, ◌&&◌, nat_eq, nat_lt, is_some, Option, Some, None, Result, Ok, Err}
+use Rattle.std.specs.Prelude.{ℕ, Bool, not, ◌&&◌, nat_eq, nat_lt, is_some, Result, Ok}
 use Rattle.std.specs.Result.{result_ok}
 use Rattle.tree_model.specs.Path.{Path, is_root, parent_of, strip}
 use Rattle.tree_model.specs.Step.{◌>>=◌, refuse_if}

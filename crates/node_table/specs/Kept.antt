@@ -1,5 +1,5 @@
 -- What is kept beside the nodes, in words of private functions alone.
-use Rattle.std.specs.Prelude.{◌≡◌, ℕ, Bool, ◌||◌, List, length, Some, is_some, nat_eq}
+use Rattle.std.specs.Prelude.{◌≡◌, ℕ, ◌||◌, List, length, Some, is_some, nat_eq}
 use Rattle.std.specs.Ordering.{nat_cmp}
 use Rattle.std.specs.FinSet as set
 use Rattle.block_format.specs.declared.slot.Slot.{Slot}

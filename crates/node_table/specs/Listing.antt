@@ -1,15 +1,10 @@
 -- What a table says of a node, in words of private functions alone.
-use Rattle.std.specs.Prelude.{ℕ, Bool, List, [], ◌∷◌, Option, Some, None}
-use Rattle.block_format.specs.declared.slot.Slot.{Slot}
-use Rattle.block_format.specs.declared.slot.Slot.TheVariants.{Unused, Entry}
-use Rattle.tree_model.specs.declared.reply.Entry as entries
+use Rattle.std.specs.Prelude.{ℕ}
 use Rattle.tree_model.specs.declared.reply.Kind.{Kind}
 use Rattle.tree_model.specs.declared.reply.Kind.TheVariants as kinds
 use Rattle.tree_model.specs.declared.reply.Reply.{Reply}
 use Rattle.tree_model.specs.declared.reply.Reply.TheVariants.{Stat}
 use Rattle.node_table.specs.declared.held.FoundNode.{FoundNode}
-use Rattle.node_table.specs.declared.held.HeldNode.{HeldNode}
-use Rattle.node_table.specs.declared.held.HeldNode.TheVariants.{File, Directory}
 use Rattle.node_table.specs.declared.held.NodeInfo.{NodeInfo}
 use Rattle.node_table.specs.declared.held.NodeInfo.TheVariants as infos
 use Rattle.node_table.specs.Counts.{count}

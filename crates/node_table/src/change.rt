@@ -11,7 +11,10 @@ pub enum Change {
         number: InoNo,
     },
     /// A file that has so many bytes now.
-    Sized { number: InoNo, size: u64 },
+    Sized {
+        number: InoNo,
+        size: u64,
+    },
     /// A node that is gone, and the slot that it left.
     Removed {
         parent: InoNo,

@@ -64,11 +64,7 @@ impl NodeTable {
     }
 
     /// Puts a directory under a number, whatever had it. Its entries are counted once.
-    pub fn put_directory(
-        &mut self,
-        number: InoNo,
-        directory: Directory,
-    ) -> Result<(), AllocError>
+    pub fn put_directory(&mut self, number: InoNo, directory: Directory) -> Result<(), AllocError>
         requires at_least { 1 ≤ number }
         requires at_most { number ≤ 65535 }
         ensures put { OnOk result (IsSet self.old number (Some (HeldNode.Directory directory)) self.new) }

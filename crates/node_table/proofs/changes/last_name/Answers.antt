@@ -1,5 +1,3 @@
-use Rattle.std.proofs.Common.{ap, sym, subst, ◌∙◌, ◌≡◌, ◌-◌, List, [], ◌∷◌, ◌++◌, length, get_or}
-use Rattle.tree_model.specs.Path.{Path, parent_of}
 use Rattle.node_table.proofs.AcceptedLaws.{last_of}
 use Rattle.node_table.proofs.changes.last_name.Goals as goal
 

@@ -1,6 +1,4 @@
-use Rattle.std.proofs.Common.{arith, sym, ap, ◌∙◌, length}
-use Rattle.std.proofs.lemmas.List.Sums.{length-filter}
-use Rattle.dir_slots.specs.Slots.{is_used}
+use Rattle.std.proofs.Common.{arith, ap, length}
 use Rattle.node_table.proofs.SlotCounts.{count_within}
 use Rattle.node_table.proofs.counted.CountedDirectory.new.Goals as goal
 

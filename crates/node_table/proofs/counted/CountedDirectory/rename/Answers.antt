@@ -1,7 +1,6 @@
-use Rattle.std.proofs.Common.{sym, ap, subst, ◌∙◌, arith, ◌≡◌, None, Some}
+use Rattle.std.proofs.Common.{sym, ap, subst, ◌∙◌, arith, ◌≡◌, None}
 use Rattle.dir_slots.specs.Slots.{slot_of, number_in, ReplacesName}
 use Rattle.node_table.specs.Moves.{MovesName}
-use Rattle.node_table.specs.declared.counted.MovedSlots.{MovedSlots}
 use Rattle.node_table.proofs.MoveSlots.{some_is, has_slot, moved_apart, moved_within, count_same_moved, slot_within}
 use Rattle.node_table.proofs.counted.CountedDirectory.rename.Goals as goal
 

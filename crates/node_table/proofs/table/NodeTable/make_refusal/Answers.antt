@@ -1,12 +1,5 @@
-use Rattle.std.proofs.Common.{ap, sym, ◌∙◌}
-use Rattle.std.specs.Prelude.{Result, Ok}
-use Rattle.std.specs.Result.{result_err}
-use Rattle.tree_model.specs.Step.{◌>>=◌, or_refuse}
-use Rattle.tree_model.specs.Tree.{least_unused}
-use Rattle.tree_model.specs.declared.refusal.Refusal.{Refusal}
-use Rattle.tree_model.specs.declared.refusal.Refusal.TheVariants.{NoNumbers}
-use Rattle.node_table.proofs.NumberLaws.{next_is}
-use Rattle.node_table.proofs.RefusalLaws.{make_same, make_refused, make_numbered}
+use Rattle.std.proofs.Common.{sym, ◌∙◌}
+use Rattle.node_table.proofs.RefusalLaws.{make_refused, make_numbered}
 use Rattle.node_table.proofs.table.NodeTable.make_refusal.Goals as goal
 
 pub returns-in-Err : goal.returns-in-Err

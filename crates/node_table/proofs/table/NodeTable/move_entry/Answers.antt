@@ -1,4 +1,4 @@
-use Rattle.std.proofs.Common.{ap, sym, ◌∙◌}
+use Rattle.std.proofs.Common.{ap, ◌∙◌}
 use Rattle.dir_slots.specs.Slots.{number_in}
 use Rattle.node_table.specs.Held.{held, slots_of}
 use Rattle.node_table.proofs.KeptLaws.{set_other}

@@ -1,4 +1,4 @@
-use Rattle.std.proofs.Common.{sym, ap, ◌∙◌}
+use Rattle.std.proofs.Common.{sym, ◌∙◌}
 use Rattle.node_table.proofs.AcceptedLaws.{size_goes, write_ready}
 use Rattle.node_table.proofs.RefusalLaws.{write_same}
 use Rattle.node_table.proofs.table.NodeTable.write.Goals as goal
