@@ -238,3 +238,47 @@ kept_taken slots order holes i p place number name is there within pl it hl abov
       entries = order_taken slots new order i p is.entries differs wide pl it;
       unused = holes_more slots new holes i place is.unused differs wide (ap is_used there) hl above below;
     }
+
+-- ---- an entry gets another name
+
+-- without an entry, a name that was absent is absent
+pub absent_taken : (slots new : List Slot) (i : ℕ) (name : List ℕ) → Differs slots new i Unused → IsAbsent slots name → IsAbsent new name
+absent_taken slots new i name differs absent j used e =
+    ⊎_elim (λ (is : j ≡ i). not_both (is_used (slot_at new j)) used (ap (λ (k : ℕ). is_used (slot_at new k)) is ∙ ap is_used differs.here))
+    (λ (ne : j ≡ i → ⊥). absent j (sym (ap is_used (differs.others j ne)) ∙ used) (sym (ap name_of (differs.others j ne)) ∙ e)) (cases_eq j i)
+
+pub order_left : (slots : List Slot) (order holes : List ℕ) (i p : ℕ) → IsKept slots order holes → i < length slots → p < length order → slice_index order p ≡ i → IsOrder (slice_set slots i Unused) (remove order p)
+order_left slots order holes i p is lt within it = order_taken slots (slice_set slots i Unused) order i p is.entries (set_differs slots i Unused lt) (length-set slots i Unused) within it
+
+-- the holes stay where an entry takes the place of another
+holes_same : (slots new : List Slot) (holes : List ℕ) (i : ℕ) → IsHoles slots holes → is_used (slot_at slots i) ≡ true → is_used (slot_at new i) ≡ true → ((j : ℕ) → (j ≡ i → ⊥) → slot_at new j ≡ slot_at slots j) → length new ≡ length slots
+    → IsHoles new holes
+holes_same slots new holes i is used now others wide = record {
+  members = λ k lt.
+      let hole = is.members k lt in
+      let ne : slice_index holes k ≡ i → ⊥ = λ e. not_both (is_used (slot_at slots i)) used (subst (λ (j : ℕ). is_used (slot_at slots j) ≡ false) e hole.2) in
+      (hole.0, omega (arith, hole.1), ap is_used (others (slice_index holes k) ne) ∙ hole.2);
+  sorted = is.sorted;
+  all = λ j hole.
+      let ne : j ≡ i → ⊥ = λ e. not_both (is_used (slot_at new i)) now (subst (λ (k : ℕ). is_used (slot_at new k) ≡ false) e hole.2) in
+      is.all j (hole.0, omega (arith, hole.1), sym (ap is_used (others j ne)) ∙ hole.2);
+}
+
+module _ (slots : List Slot) (order holes : List ℕ) (i p place number : ℕ) (other name : List ℕ) (is : IsKept slots order holes) (there : slot_at slots i ≡ Entry number other) (lt : i < length slots)
+    (within : p < length order) (it : slice_index order p ≡ i) (gap : IsGap (slice_set slots i Unused) (remove order p) name place) (fits : SlotFits (Entry number name)) where
+  taken_differs : Differs slots (slice_set slots i Unused) i Unused
+  taken_differs = set_differs slots i Unused lt
+
+  new_differs : Differs (slice_set slots i Unused) (slice_set (slice_set slots i Unused) i (Entry number name)) i (Entry number name)
+  new_differs = set_differs (slice_set slots i Unused) i (Entry number name) (omega (arith, length-set slots i Unused))
+
+  pub replaced_wide : length (slice_set (slice_set slots i Unused) i (Entry number name)) ≡ length slots
+  replaced_wide = length-set (slice_set slots i Unused) i (Entry number name) ∙ length-set slots i Unused
+
+  pub kept_replaced : IsKept (slice_set (slice_set slots i Unused) i (Entry number name)) (insert (remove order p) place i) holes
+  kept_replaced = record {
+    width = omega (arith, replaced_wide, is.width);
+    fits = fits_put (slice_set slots i Unused) _ i (Entry number name) new_differs fits (fits_put slots (slice_set slots i Unused) i Unused taken_differs tt is.fits);
+    entries = order_put (slice_set slots i Unused) _ (remove order p) i place number name (order_left slots order holes i p is lt within it) (ap is_used taken_differs.here) new_differs gap;
+    unused = holes_same slots _ holes i is.unused (ap is_used there) (ap is_used new_differs.here) (λ j ne. new_differs.others j ne ∙ taken_differs.others j ne) replaced_wide;
+  }

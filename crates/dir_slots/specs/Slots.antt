@@ -45,6 +45,10 @@ abbrev pub without_slot : List Slot → Option ℕ → List Slot
 without_slot slots None = slots
 without_slot slots (Some i) = slice_set slots i Unused
 
+-- the slot of a name has another name now, under the number that it had
+abbrev pub ReplacesName : List Slot → ℕ → List ℕ → List ℕ → List Slot → Type 0
+ReplacesName slots i from to new = (number : ℕ) × (number_in slots from ≡ Some number) × (new ≡ with_slot (without_slot slots (Some i)) i (Entry number to))
+
 -- no two entries have one name
 abbrev pub HasNamesOnce : List Slot → Type 0
 HasNamesOnce slots = (i j : ℕ) → is_used (slot_at slots i) ≡ true → is_used (slot_at slots j) ≡ true → name_of (slot_at slots i) ≡ name_of (slot_at slots j) → i ≡ j

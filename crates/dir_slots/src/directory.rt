@@ -1,14 +1,14 @@
 //! A directory in memory.
-ghost use Rattle.std.specs.Prelude.{◌≡◌, ◌<◌, ◌≤◌, List, None, filter, length, IfOk, OnErr, IsErrOf};
+ghost use Rattle.std.specs.Prelude.{◌≡◌, ◌<◌, ◌≤◌, List, None, filter, length, IfOk, IfSome, IfNone, OnErr, IsErrOf};
 ghost use Rattle.block_format.specs.declared.slot.Slot.{Slot};
 ghost use Rattle.block_format.specs.declared.slot.Slot.TheVariants.{Entry};
-ghost use Rattle.dir_slots.specs.Slots.{IsDirectory, number_in, slot_of, first_unused, with_slot, without_slot, is_used};
+ghost use Rattle.dir_slots.specs.Slots.{IsDirectory, number_in, slot_of, first_unused, with_slot, without_slot, is_used, ReplacesName};
 ghost use Rattle.dir_slots.specs.Pages.{SpellsDirectory, IsPage, pages_for};
 ghost use Rattle.dir_slots.specs.declared.fault.DirFault.TheVariants.{BadSlots};
 
 use crate::DirFault;
 use crate::holes::{count_above, holes_of, put_hole};
-use crate::order::{gap_for, look_up, order_of};
+use crate::order::{gap_for, look_up, order_of, put_again};
 use crate::reading::read_slots;
 use crate::slots::{clear_slot, is_used, put_slot, slot_at};
 use block_format::{Slot, write_slot};
@@ -138,6 +138,24 @@ impl Directory {
         let place = count_above(&self.holes, found.slot);
         put_hole(&mut self.holes, place, found.slot);
         Some(found.number)
+    }
+
+    /// Gives the entry of one name another name, in the slot that it has, and says which that is. Takes no memory.
+    pub fn replace(&mut self, from: &Name, to: &Name) -> Option<u32>
+        requires { slot_of self.old to.now ≡ None }
+        ensures slot { result ≡ slot_of self.old from.now }
+        ensures none { IfNone result (self.new ≡ self.old) }
+        ensures replaced { IfSome result (λ slot. ReplacesName self.old slot from.now to.now self.new) }
+        ensures wide { length self.new ≡ length self.old }
+    {
+        let found = look_up(&self.slots, &self.order, from)?;
+        self.order.remove(found.place);
+        self.slots[found.slot as usize] = Slot::Unused;
+        let place = gap_for(&self.slots, &self.order, to);
+        put_again(&mut self.order, place, found.slot);
+        let (number, name) = (found.number, *to);
+        self.slots[found.slot as usize] = Slot::Entry { number, name };
+        Some(found.slot)
     }
 
     /// The slots that hold entries, in their order.

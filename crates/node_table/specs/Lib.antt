@@ -1,0 +1,11 @@
+pub mod Accepted
+pub mod Changes
+pub mod Checks
+pub mod Counts
+pub mod Found
+pub mod Held
+pub mod Kept
+pub mod Listing
+pub mod Moves
+pub mod Numbers
+pub mod Walks

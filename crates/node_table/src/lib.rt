@@ -1,0 +1,16 @@
+//! The nodes of a volume in memory, without the bytes of files: which there are, where a path leads, why a command is refused, and what a change does.
+#![tactic(auto)]
+
+mod change;
+mod changes;
+mod checks;
+mod counted;
+mod held;
+mod listing;
+mod nodes;
+mod table;
+mod walks;
+
+pub use change::Change;
+pub use held::{FoundNode, NodeInfo};
+pub use table::NodeTable;

@@ -1,0 +1,2 @@
+mod MemberLaws
+mod SumLaws
