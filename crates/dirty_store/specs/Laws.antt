@@ -1,0 +1,2 @@
+-- What holds of the definitions.
+use Rattle.std.specs.Prelude.{◌≡◌}

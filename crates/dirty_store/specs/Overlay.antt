@@ -1,0 +1,80 @@
+-- What the accepted commands since the last point have staged.
+use Rattle.std.specs.Prelude.{ℕ, ◌+◌, ◌≤◌, ◌<◌, List, [], ◌∷◌, All, filter, map, max, min, nat_eq, if◌then◌else◌, Option, Some, None, IfSome}
+use Rattle.std.specs.Option.{option_map, option_map_or}
+use Rattle.std.specs.Ordering.{nat_cmp}
+use Rattle.std.specs.FinMap.{find, put}
+use Rattle.vol_numbers.specs.declared.block.Block.{Block}
+use Rattle.block_format.specs.declared.inode.Inode.{Inode}
+use Rattle.block_format.specs.declared.slot.Slot.{Slot}
+use Rattle.volume_model.specs.Places.{Spot, spot_cmp}
+use Rattle.volume_model.specs.Done.{Cut}
+use Rattle.dirty_store.specs.declared.effect.Effect.{Effect}
+use Rattle.dirty_store.specs.declared.effect.Touched.{Touched}
+use Rattle.dirty_store.specs.declared.effect.SlotChange.{SlotChange}
+use Rattle.dirty_store.specs.declared.node_change.NodeChange.{NodeChange}
+use Rattle.dirty_store.specs.Entries.{Entries, uncut, all_put}
+
+-- The dirty places with their blocks, what is staged of each node by its number, and the staged slots by directory and slot. Each is in order.
+pub record Overlay : Type 0 where
+  pub blocks : Entries Block
+  pub nodes : List (ℕ × NodeChange)
+  pub slots : Entries Slot
+
+-- nothing is staged
+abbrev pub clean : Overlay
+clean = record { blocks = []; nodes = []; slots = [] }
+
+-- within the greatest sizes of a file and a directory
+pub record IsEffect (e : Effect) : Type 0 where
+  pub cut : IfSome e.cut_to (λ blocks. blocks ≤ 1048576)
+  pub touched : All (λ t. t.place < 1048576) e.touched
+  pub slots : All (λ c. c.slot < 65534) e.slots
+
+-- ---- look-ups
+
+-- what is staged of a node
+abbrev pub node_of : Overlay → ℕ → Option NodeChange
+node_of o number = find nat_cmp number o.nodes
+
+-- the least number of blocks that a cut has named, and the greatest that a node can have where there was none
+abbrev pub least_cut : Option NodeChange → ℕ
+least_cut None = 1048576
+least_cut (Some node) = node.cut_to
+
+-- the dirty places of a node
+abbrev pub dirty_places : Entries Block → ℕ → List ℕ
+dirty_places blocks number = map (λ e. e.0.1) (filter (λ e. nat_eq e.0.0 number) blocks)
+
+-- one more than the greatest staged slot of a directory
+abbrev pub width_of : Entries Slot → ℕ → ℕ
+width_of [] directory = 0
+width_of (e ∷ es) directory = if nat_eq e.0.0 directory then max (e.0.1 + 1) (width_of es directory) else width_of es directory
+
+-- ---- staging
+
+-- what an effect cuts off its node
+abbrev pub cut_of : Effect → Option Cut
+cut_of e = option_map (λ blocks. record { number = e.number; blocks = blocks }) e.cut_to
+
+-- A cut to no block forgets the slots.
+abbrev pub forgets : ℕ → Option ℕ → Option Cut
+forgets number None = None
+forgets number (Some blocks) = if nat_eq blocks 0 then Some (record { number = number; blocks = 0 }) else None
+
+abbrev pub touched_entries : ℕ → List Touched → Entries Block
+touched_entries number touched = map (λ t. ((number, t.place), t.block)) touched
+
+abbrev pub slot_entries : List SlotChange → Entries Slot
+slot_entries changes = map (λ c. ((c.directory, c.slot), c.content)) changes
+
+-- The kind and size are the effect's, and the least cut goes on.
+abbrev pub node_after : Effect → Option NodeChange → NodeChange
+node_after e was = record { inode = e.inode; cut_to = min (least_cut was) (option_map_or (λ blocks. blocks) e.cut_to 1048576) }
+
+-- The cut is made first, then the touched places and the slot changes, each list in its order.
+abbrev pub staged : Overlay → Effect → Overlay
+staged o e = record {
+  blocks = all_put (touched_entries e.number e.touched) (uncut (cut_of e) o.blocks);
+  nodes = put nat_cmp e.number (node_after e (node_of o e.number)) o.nodes;
+  slots = all_put (slot_entries e.slots) (uncut (forgets e.number e.cut_to) o.slots);
+}
