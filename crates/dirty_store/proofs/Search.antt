@@ -11,12 +11,12 @@ use Rattle.volume_model.specs.Places.{Spot, spot_cmp}
 use Rattle.volume_model.proofs.Order.{first_of, second_of, spot_total}
 use Rattle.dirty_store.specs.Entries.{Entries, count_before}
 
-less_of : (o : Ordering) → is_lt o ≡ true → o ≡ Less
+pub less_of : (o : Ordering) → is_lt o ≡ true → o ≡ Less
 less_of Less e = refl
 less_of Equal e = cc
 less_of Greater e = cc
 
-greater_of : (o : Ordering) → is_gt o ≡ true → o ≡ Greater
+pub greater_of : (o : Ordering) → is_gt o ≡ true → o ≡ Greater
 greater_of Less e = cc
 greater_of Equal e = cc
 greater_of Greater e = refl
@@ -32,7 +32,7 @@ behind : (spot a b : Spot) → is_lt (spot_cmp a b) ≡ true → is_gt (spot_cmp
 behind spot a b less greater = ap is_gt (less_greater a spot (spot_total.trans a b spot (less_of _ less) (greater_less spot b (greater_of _ greater))))
 
 module _ {T : Type 0} where
-  below_at : (spot : Spot) (es : Entries T) (k : ℕ) (d : Spot × T) → below_all spot_cmp spot es ≡ true → k < length es → is_lt (spot_cmp spot (get_or es k d).0) ≡ true
+  pub below_at : (spot : Spot) (es : Entries T) (k : ℕ) (d : Spot × T) → below_all spot_cmp spot es ≡ true → k < length es → is_lt (spot_cmp spot (get_or es k d).0) ≡ true
   below_at spot [] k d below lt = absurd (omega arith)
   below_at spot (e ∷ es) zero d below lt = first_of _ _ below
   below_at spot (e ∷ es) (suc k) d below lt = below_at spot es k d (second_of _ _ below) (omega arith)

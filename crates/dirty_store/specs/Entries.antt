@@ -1,6 +1,7 @@
 -- Lists of what stands at spots, in the order of the spots, each spot once. A spot is a node's number and a place in the node.
-use Rattle.std.specs.Prelude.{ℕ, suc, ◌<◌, Bool, IsTrue, not, List, [], ◌∷◌, filter, map, if◌then◌else◌, Option, Some, None}
+use Rattle.std.specs.Prelude.{◌≡◌, ◌<◌, ◌≤◌, ℕ, suc, Bool, IsTrue, not, List, [], ◌∷◌, length, slice_index_or, filter, map, if◌then◌else◌, Option, Some, None}
 use Rattle.std.specs.Ordering.{is_gt}
+use Rattle.std.specs.declared.cmp.Ordering.TheVariants.{Less, Greater}
 use Rattle.std.specs.FinMap.{put, is_sorted}
 use Rattle.volume_model.specs.Places.{Spot, spot_cmp, spot_eq}
 use Rattle.volume_model.specs.Done.{Cut, is_cut}
@@ -46,6 +47,17 @@ put_back [] entries = entries
 put_back (e ∷ es) entries = set_back e.0 e.1 (put_back es entries)
 
 -- ---- for private functions
+
+-- A spot stands at this place among entries.
+pub record IsPlaceOf {T : Type 0} (spot : Spot) (entries : Entries T) (place : ℕ) : Type 0 where
+  pub within : place < length entries
+  pub same : (d : Spot × T) → (slice_index_or entries place d).0 ≡ spot
+
+-- A spot has no entry, and would stand at this place.
+pub record IsGapFor {T : Type 0} (spot : Spot) (entries : Entries T) (place : ℕ) : Type 0 where
+  pub within : place ≤ length entries
+  pub before : (k : ℕ) (d : Spot × T) → k < place → spot_cmp spot (slice_index_or entries k d).0 ≡ Greater
+  pub behind : (k : ℕ) (d : Spot × T) → place ≤ k → k < length entries → spot_cmp spot (slice_index_or entries k d).0 ≡ Less
 
 -- how many entries at the front are before a spot
 abbrev pub count_before : {T : Type 0} → Spot → Entries T → ℕ
