@@ -1,5 +1,7 @@
 -- Lists of what stands at spots, in the order of the spots, each spot once. A spot is a node's number and a place in the node.
 use Rattle.std.specs.Prelude.{◌≡◌, ◌<◌, ◌≤◌, ℕ, suc, Bool, IsTrue, not, List, [], ◌∷◌, length, slice_index_or, filter, map, if◌then◌else◌, Option, Some, None}
+use Rattle.std.specs.List.{slice_range, remove_range}
+use Rattle.std.specs.Option.{option_map}
 use Rattle.std.specs.Ordering.{is_gt}
 use Rattle.std.specs.declared.cmp.Ordering.TheVariants.{Less, Greater}
 use Rattle.std.specs.FinMap.{put, is_sorted}
@@ -22,6 +24,10 @@ pub record AreKept {T : Type 0} (entries : Entries T) : Type 0 where
 -- all entries but that of a spot
 abbrev pub without : {T : Type 0} → Spot → Entries T → Entries T
 without spot entries = filter (λ e. not (spot_eq e.0 spot)) entries
+
+-- a cut of a node, where there is one
+abbrev pub cut_at : ℕ → Option ℕ → Option Cut
+cut_at number blocks = option_map (λ n. record { number = number; blocks = n }) blocks
 
 -- the entries that a cut leaves
 abbrev pub uncut : {T : Type 0} → Option Cut → Entries T → Entries T
@@ -63,6 +69,13 @@ pub record IsGapFor {T : Type 0} (spot : Spot) (entries : Entries T) (place : �
 abbrev pub count_before : {T : Type 0} → Spot → Entries T → ℕ
 count_before spot [] = 0
 count_before spot (e ∷ es) = if is_gt (spot_cmp spot e.0) then suc (count_before spot es) else 0
+
+-- These are the bounds of a node's entries from a place on.
+pub record AreBoundsOf {T : Type 0} (number from : ℕ) (entries : Entries T) (start end : ℕ) : Type 0 where
+  pub ordered : start ≤ end
+  pub within : end ≤ length entries
+  pub inside : slice_range entries start end ≡ cut_away (cut_at number (Some from)) entries
+  pub outside : remove_range entries start end ≡ uncut (cut_at number (Some from)) entries
 
 -- entries as what a cut replaced
 abbrev pub all_there : {T : Type 0} → Entries T → Entries (Option T)

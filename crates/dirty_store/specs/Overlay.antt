@@ -1,6 +1,6 @@
 -- What the accepted commands since the last point have staged.
 use Rattle.std.specs.Prelude.{ℕ, ◌+◌, ◌≤◌, ◌<◌, List, [], ◌∷◌, All, filter, map, max, min, nat_eq, if◌then◌else◌, Option, Some, None, IfSome}
-use Rattle.std.specs.Option.{option_map, option_map_or}
+use Rattle.std.specs.Option.{option_map_or}
 use Rattle.std.specs.Ordering.{nat_cmp}
 use Rattle.std.specs.FinMap.{find, put}
 use Rattle.vol_numbers.specs.declared.block.Block.{Block}
@@ -12,7 +12,7 @@ use Rattle.dirty_store.specs.declared.effect.Effect.{Effect}
 use Rattle.dirty_store.specs.declared.effect.Touched.{Touched}
 use Rattle.dirty_store.specs.declared.effect.SlotChange.{SlotChange}
 use Rattle.dirty_store.specs.declared.node_change.NodeChange.{NodeChange}
-use Rattle.dirty_store.specs.Entries.{Entries, uncut, all_put}
+use Rattle.dirty_store.specs.Entries.{Entries, cut_at, uncut, all_put}
 
 -- The dirty places with their blocks, what is staged of each node by its number, and the staged slots by directory and slot. Each is in order.
 pub record Overlay : Type 0 where
@@ -54,12 +54,16 @@ width_of (e ∷ es) directory = if nat_eq e.0.0 directory then max (e.0.1 + 1) (
 
 -- what an effect cuts off its node
 abbrev pub cut_of : Effect → Option Cut
-cut_of e = option_map (λ blocks. record { number = e.number; blocks = blocks }) e.cut_to
+cut_of e = cut_at e.number e.cut_to
 
--- A cut to no block forgets the slots.
-abbrev pub forgets : ℕ → Option ℕ → Option Cut
-forgets number None = None
-forgets number (Some blocks) = if nat_eq blocks 0 then Some (record { number = number; blocks = 0 }) else None
+-- only a cut to no block
+abbrev pub whole : Option ℕ → Option ℕ
+whole None = None
+whole (Some blocks) = if nat_eq blocks 0 then Some blocks else None
+
+-- the slots that an effect forgets: all, of a directory that is cut to no block
+abbrev pub forgotten : Effect → Option Cut
+forgotten e = cut_at e.number (whole e.cut_to)
 
 abbrev pub touched_entries : ℕ → List Touched → Entries Block
 touched_entries number touched = map (λ t. ((number, t.place), t.block)) touched
@@ -76,5 +80,5 @@ abbrev pub staged : Overlay → Effect → Overlay
 staged o e = record {
   blocks = all_put (touched_entries e.number e.touched) (uncut (cut_of e) o.blocks);
   nodes = put nat_cmp e.number (node_after e (node_of o e.number)) o.nodes;
-  slots = all_put (slot_entries e.slots) (uncut (forgets e.number e.cut_to) o.slots);
+  slots = all_put (slot_entries e.slots) (uncut (forgotten e) o.slots);
 }

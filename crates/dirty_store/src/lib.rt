@@ -1,10 +1,11 @@
 //! What accepted commands have staged since the last point: dirty blocks, nodes and directory slots, and how the last staging is undone.
 #![tactic(auto)]
 
+mod cuts;
 mod effect;
 mod entries;
 mod node_change;
-mod spans;
+
 
 pub use effect::{Effect, SlotChange, SlotChangeList, Touched, TouchedList};
 pub use node_change::NodeChange;
