@@ -1,3 +1,4 @@
 pub mod Search
 pub mod Places
 pub mod Halves
+pub mod Bounds

@@ -28,7 +28,7 @@ pub less_greater : (a b : Spot) → spot_cmp a b ≡ Less → spot_cmp b a ≡ G
 less_greater a b e = spot_total.antisymm b a ∙ ap ordering_reverse e
 
 -- what is behind a spot that is behind another is behind that one
-behind : (spot a b : Spot) → is_lt (spot_cmp a b) ≡ true → is_gt (spot_cmp spot b) ≡ true → is_gt (spot_cmp spot a) ≡ true
+pub behind : (spot a b : Spot) → is_lt (spot_cmp a b) ≡ true → is_gt (spot_cmp spot b) ≡ true → is_gt (spot_cmp spot a) ≡ true
 behind spot a b less greater = ap is_gt (less_greater a spot (spot_total.trans a b spot (less_of _ less) (greater_less spot b (greater_of _ greater))))
 
 module _ {T : Type 0} where
