@@ -2,3 +2,4 @@ pub mod Search
 pub mod Places
 pub mod Halves
 pub mod Bounds
+pub mod BackLaws

@@ -14,7 +14,7 @@ use Rattle.volume_model.proofs.Order.{first_of, second_of, spot_total, spot_tie}
 use Rattle.dirty_store.specs.Entries.{Entries, IsPlaceOf, IsGapFor, without}
 use Rattle.dirty_store.proofs.Search.{less_of, less_greater, below_at}
 
-equal_of : (o : Ordering) → is_eq o ≡ true → o ≡ Equal
+pub equal_of : (o : Ordering) → is_eq o ≡ true → o ≡ Equal
 equal_of Less e = cc
 equal_of Equal e = refl
 equal_of Greater e = cc

@@ -1,5 +1,5 @@
 -- Lists of what stands at spots, in the order of the spots, each spot once. A spot is a node's number and a place in the node.
-use Rattle.std.specs.Prelude.{◌≡◌, ◌<◌, ◌≤◌, ℕ, suc, Bool, IsTrue, not, List, [], ◌∷◌, length, slice_index_or, filter, map, if◌then◌else◌, Option, Some, None}
+use Rattle.std.specs.Prelude.{◌≡◌, ◌<◌, ◌≤◌, ℕ, suc, ◌+◌, Bool, IsTrue, not, List, [], ◌∷◌, length, slice_index_or, filter, map, if◌then◌else◌, Option, Some, None, is_some}
 use Rattle.std.specs.List.{slice_range, remove_range}
 use Rattle.std.specs.Option.{option_map}
 use Rattle.std.specs.Ordering.{is_gt}
@@ -51,6 +51,11 @@ set_back spot (Some item) entries = put spot_cmp spot item entries
 abbrev pub put_back : {T : Type 0} → Entries (Option T) → Entries T → Entries T
 put_back [] entries = entries
 put_back (e ∷ es) entries = set_back e.0 e.1 (put_back es entries)
+
+-- how many of these had something
+abbrev pub there : {T : Type 0} → Entries (Option T) → ℕ
+there [] = 0
+there (e ∷ es) = (if is_some e.1 then 1 else 0) + there es
 
 -- ---- for private functions
 

@@ -1,6 +1,6 @@
 -- What the accepted commands since the last point have staged.
-use Rattle.std.specs.Prelude.{ℕ, ◌+◌, ◌≤◌, ◌<◌, List, [], ◌∷◌, All, filter, map, max, min, nat_eq, if◌then◌else◌, Option, Some, None, IfSome}
-use Rattle.std.specs.Option.{option_map_or}
+use Rattle.std.specs.Prelude.{ℕ, ◌+◌, ◌≤◌, ◌<◌, List, [], ◌∷◌, All, filter, map, max, min, nat_eq, if◌then◌else◌, Option, Some, None}
+use Rattle.std.specs.Option.{ForSome, option_map_or}
 use Rattle.std.specs.Ordering.{nat_cmp}
 use Rattle.std.specs.FinMap.{find, put}
 use Rattle.vol_numbers.specs.declared.block.Block.{Block}
@@ -26,7 +26,7 @@ clean = record { blocks = []; nodes = []; slots = [] }
 
 -- within the greatest sizes of a file and a directory
 pub record IsEffect (e : Effect) : Type 0 where
-  pub cut : IfSome e.cut_to (λ blocks. blocks ≤ 1048576)
+  pub cut : ForSome e.cut_to (λ blocks. blocks ≤ 1048576)
   pub touched : All (λ t. t.place < 1048576) e.touched
   pub slots : All (λ c. c.slot < 65534) e.slots
 

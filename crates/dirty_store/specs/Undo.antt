@@ -5,7 +5,7 @@ use Rattle.std.specs.FinMap.{put}
 use Rattle.vol_numbers.specs.declared.block.Block.{Block}
 use Rattle.block_format.specs.declared.slot.Slot.{Slot}
 use Rattle.dirty_store.specs.declared.node_change.NodeChange.{NodeChange}
-use Rattle.dirty_store.specs.Entries.{Entries, put_back}
+use Rattle.dirty_store.specs.Entries.{Entries, put_back, there}
 use Rattle.dirty_store.specs.Overlay.{Overlay, node_of}
 
 -- A store: what is staged, and how many dirty blocks and staged slots it holds without more memory.
@@ -36,8 +36,8 @@ undone o r = record {
 
 -- What was replaced can be put back without memory: there is room for it, and its node is staged.
 pub record IsUndoable (h : Held) (r : Replaced) : Type 0 where
-  pub blocks : length h.overlay.blocks + length r.blocks ≤ h.block_room
-  pub slots : length h.overlay.slots + length r.slots ≤ h.slot_room
+  pub blocks : length h.overlay.blocks + there r.blocks ≤ h.block_room
+  pub slots : length h.overlay.slots + there r.slots ≤ h.slot_room
   pub node : IsSome (node_of h.overlay r.number)
 
 -- no room is lost
