@@ -3,3 +3,4 @@ pub mod Places
 pub mod Halves
 pub mod Bounds
 pub mod BackLaws
+pub mod KeptLaws

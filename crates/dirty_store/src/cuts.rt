@@ -1,5 +1,6 @@
 //! The entries of one node from a place on, and how they are cut away.
 ghost use Rattle.std.specs.Prelude.{◌≡◌, ◌≤◌, ◌<◌, ◌+◌, ◌++◌, ◌∷◌, [], Some, length, vec_len, vec_capacity};
+ghost use Rattle.std.specs.Option.{ForSome};
 ghost use Rattle.dirty_store.specs.Entries.{AreKept, AreBoundsOf, cut_at, cut_away, uncut, all_there};
 
 use crate::entries::{Spot, count_before};
@@ -21,6 +22,33 @@ pub(crate) fn bounds_of<V>(entries: &[(Spot, V)], number: InoNo, from: Fbn) -> R
     let start = count_before(entries, (number, from));
     let end = count_before(entries, (number, PLACES));
     start..end
+}
+
+/// How many entries a cut of a node takes away.
+pub(crate) fn cut_len<V>(entries: &[(Spot, V)], number: InoNo, cut_to: Option<Fbn>) -> usize
+    requires kept { AreKept entries.now }
+    requires limit { ForSome cut_to (λ from. from ≤ 1048576) }
+    ensures { result ≡ length (cut_away (cut_at number cut_to) entries.now) }
+{
+    match cut_to {
+        Some(from) => bounds_of(entries, number, from).len(),
+        None => 0,
+    }
+}
+
+/// Cuts a node where there is a cut, and keeps what is cut away as what was there. There is room for it.
+pub(crate) fn cut<V: Drop>(entries: &mut Vec<(Spot, V)>, number: InoNo, cut_to: Option<Fbn>, was: &mut Vec<Was<V>>)
+    requires kept { AreKept entries.old.items }
+    requires limit { ForSome cut_to (λ from. from ≤ 1048576) }
+    requires room { vec_len was.old + length (cut_away (cut_at number cut_to) entries.old.items) ≤ vec_capacity was.old }
+    ensures cut { entries.new.items ≡ uncut (cut_at number cut_to) entries.old.items }
+    ensures was { was.new.items ≡ was.old.items ++ all_there (cut_away (cut_at number cut_to) entries.old.items) }
+    ensures capacity { vec_capacity entries.new ≡ vec_capacity entries.old }
+    ensures was_capacity { vec_capacity was.old ≤ vec_capacity was.new }
+{
+    if let Some(from) = cut_to {
+        cut_from(entries, number, from, was);
+    }
 }
 
 /// Cuts away the entries of a node, from a place on, and keeps them as what was there. There is room for them.

@@ -5,6 +5,7 @@ mod cuts;
 mod effect;
 mod entries;
 mod node_change;
+mod staging;
 
 
 pub use effect::{Effect, SlotChange, SlotChangeList, Touched, TouchedList};
