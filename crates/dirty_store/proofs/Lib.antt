@@ -4,3 +4,4 @@ pub mod Halves
 pub mod Bounds
 pub mod BackLaws
 pub mod KeptLaws
+pub mod NodeLaws

@@ -4,6 +4,8 @@ use Rattle.std.specs.List.{slice_range, remove_range}
 use Rattle.std.specs.Option.{option_map}
 use Rattle.std.specs.Ordering.{is_gt}
 use Rattle.std.specs.declared.cmp.Ordering.TheVariants.{Less, Greater}
+use Rattle.std.specs.declared.boxed.Box.{Box}
+use Rattle.std.specs.declared.alloc.Global.{Global}
 use Rattle.std.specs.FinMap.{put, is_sorted}
 use Rattle.volume_model.specs.Places.{Spot, spot_cmp, spot_eq}
 use Rattle.volume_model.specs.Done.{Cut, is_cut}
@@ -58,6 +60,14 @@ there [] = 0
 there (e ∷ es) = (if is_some e.1 then 1 else 0) + there es
 
 -- ---- for private functions
+
+-- what boxed entries have in their boxes
+abbrev pub unboxed : {T : Type 0} → Entries (Box T Global) → Entries T
+unboxed entries = map (λ e. (e.0, e.1.value)) entries
+
+-- the same of what was there
+abbrev pub was_unboxed : {T : Type 0} → Entries (Option (Box T Global)) → Entries (Option T)
+was_unboxed was = map (λ e. (e.0, option_map (λ b. b.value) e.1)) was
 
 -- A spot stands at this place among entries.
 pub record IsPlaceOf {T : Type 0} (spot : Spot) (entries : Entries T) (place : ℕ) : Type 0 where

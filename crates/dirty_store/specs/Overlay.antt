@@ -1,6 +1,6 @@
 -- What the accepted commands since the last point have staged.
 use Rattle.std.specs.Prelude.{ℕ, ◌+◌, ◌≤◌, ◌<◌, List, [], ◌∷◌, All, filter, map, max, min, nat_eq, if◌then◌else◌, Option, Some, None}
-use Rattle.std.specs.Option.{ForSome, option_map_or}
+use Rattle.std.specs.Option.{ForSome}
 use Rattle.std.specs.Ordering.{nat_cmp}
 use Rattle.std.specs.FinMap.{find, put}
 use Rattle.vol_numbers.specs.declared.block.Block.{Block}
@@ -71,14 +71,19 @@ touched_entries number touched = map (λ t. ((number, t.place), t.block)) touche
 abbrev pub slot_entries : List SlotChange → Entries Slot
 slot_entries changes = map (λ c. ((c.directory, c.slot), c.content)) changes
 
--- The kind and size are the effect's, and the least cut goes on.
-abbrev pub node_after : Effect → Option NodeChange → NodeChange
-node_after e was = record { inode = e.inode; cut_to = min (least_cut was) (option_map_or (λ blocks. blocks) e.cut_to 1048576) }
+-- the least cut, with one more
+abbrev pub lower_cut : Option NodeChange → Option ℕ → ℕ
+lower_cut was None = least_cut was
+lower_cut was (Some blocks) = min (least_cut was) blocks
+
+-- The kind and size are the new ones, and the least cut goes on.
+abbrev pub node_after : Inode → Option ℕ → Option NodeChange → NodeChange
+node_after inode cut_to was = record { inode = inode; cut_to = lower_cut was cut_to }
 
 -- The cut is made first, then the touched places and the slot changes, each list in its order.
 abbrev pub staged : Overlay → Effect → Overlay
 staged o e = record {
   blocks = all_put (touched_entries e.number e.touched) (uncut (cut_of e) o.blocks);
-  nodes = put nat_cmp e.number (node_after e (node_of o e.number)) o.nodes;
+  nodes = put nat_cmp e.number (node_after e.inode e.cut_to (node_of o e.number)) o.nodes;
   slots = all_put (slot_entries e.slots) (uncut (forgotten e) o.slots);
 }

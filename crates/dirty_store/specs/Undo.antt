@@ -1,7 +1,9 @@
 -- What a staging replaced, and how it is put back.
-use Rattle.std.specs.Prelude.{ℕ, ◌+◌, ◌≤◌, List, filter, not, length, nat_eq, Option, Some, None, IsSome}
+use Rattle.std.specs.Prelude.{ℕ, ◌+◌, ◌≤◌, List, length, Option, Some, None, IsSome}
 use Rattle.std.specs.Ordering.{nat_cmp}
 use Rattle.std.specs.FinMap.{put}
+use Rattle.std.specs.Map.{remove_entry}
+use Rattle.std.specs.BTreeMap.{is_at}
 use Rattle.vol_numbers.specs.declared.block.Block.{Block}
 use Rattle.block_format.specs.declared.slot.Slot.{Slot}
 use Rattle.dirty_store.specs.declared.node_change.NodeChange.{NodeChange}
@@ -23,7 +25,7 @@ pub record Replaced : Type 0 where
 
 -- with what a node had before
 abbrev pub node_back : ℕ → Option NodeChange → List (ℕ × NodeChange) → List (ℕ × NodeChange)
-node_back number None nodes = filter (λ e. not (nat_eq e.0 number)) nodes
+node_back number None nodes = remove_entry (is_at (nat_cmp number)) nodes
 node_back number (Some node) nodes = put nat_cmp number node nodes
 
 -- all that was replaced is back

@@ -1,6 +1,7 @@
 //! What accepted commands have staged since the last point: dirty blocks, nodes and directory slots, and how the last staging is undone.
 #![tactic(auto)]
 
+mod boxes;
 mod cuts;
 mod effect;
 mod entries;
