@@ -5,3 +5,4 @@ pub mod Bounds
 pub mod BackLaws
 pub mod KeptLaws
 pub mod NodeLaws
+pub mod BoxLaws

@@ -11,6 +11,7 @@ use Rattle.std.specs.FinMap.Entries.{by_order, below_all, is_sorted-put, find-pu
 use Rattle.std.specs.Map.{remove_entry}
 use Rattle.std.specs.BTreeMap.{insert_entry, is_at}
 use Rattle.volume_model.proofs.Order.{T_true, true_T, first_of, second_of}
+use Rattle.dirty_store.specs.declared.node_change.NodeChange.{NodeChange}
 use Rattle.dirty_store.specs.Undo.{node_back}
 use Rattle.dirty_store.proofs.Places.{equal_of}
 
@@ -75,3 +76,15 @@ module _ {X : Type 0} where
       by : (q : ℕ) (b : Bool) → eq_by_cmp nat_cmp q k ≡ b → cond b (Some w) (cond b (Some v) (find nat_cmp q es)) ≡ find nat_cmp q es
       by q true is = sym some ∙ ap (λ x. find nat_cmp x es) (sym (nat_cmp-IsAntisymmetric q k (equal_of _ is)))
       by q false is = refl
+
+pub node_back_sorted : (k : ℕ) (was : Option NodeChange) (nodes : List (ℕ × NodeChange)) → is_sorted nat_cmp nodes ≡ true → is_sorted nat_cmp (node_back k was nodes) ≡ true
+node_back_sorted k None nodes sorted = removed_sorted k nodes sorted
+node_back_sorted k (Some node) nodes sorted = put_sorted k node nodes sorted
+
+-- what is put back after a node is staged is what was there
+pub node_back-put : (k : ℕ) (node : NodeChange) (nodes : List (ℕ × NodeChange)) → is_sorted nat_cmp nodes ≡ true → node_back k (find nat_cmp k nodes) (put nat_cmp k node nodes) ≡ nodes
+node_back-put k node nodes sorted = by (find nat_cmp k nodes) refl
+  where
+    by : (o : Option NodeChange) → find nat_cmp k nodes ≡ o → node_back k o (put nat_cmp k node nodes) ≡ nodes
+    by None is = removed-put k node nodes is
+    by (Some was) is = put-put k node was nodes sorted is

@@ -6,8 +6,12 @@ mod cuts;
 mod effect;
 mod entries;
 mod node_change;
+mod staged;
 mod staging;
+mod store;
 
 
 pub use effect::{Effect, SlotChange, SlotChangeList, Touched, TouchedList};
 pub use node_change::NodeChange;
+pub use staged::Staged;
+pub use store::DirtyStore;
