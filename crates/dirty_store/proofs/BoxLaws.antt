@@ -74,3 +74,7 @@ module _ {A B : Type 0} (g : A → B) where
       by : (o : Option A) → there (each_was was) ≡ there was → cond (is_some (option_map g o)) 1 0 + there (each_was was) ≡ cond (is_some o) 1 0 + there was
       by None more = ap (λ n. 0 + n) more
       by (Some x) more = ap (λ n. 1 + n) more
+
+  -- a look-up among entries, as one among what is in their boxes
+  pub looked_up : (q : Spot) (es fs : Entries A) (all : Entries B) (o : Option A) → o ≡ find spot_cmp q es → es ≡ fs → each fs ≡ all → option_map g o ≡ find spot_cmp q all
+  looked_up q es fs all o is same view = ap (option_map g) (is ∙ ap (find spot_cmp q) same) ∙ sym (find-each q fs) ∙ ap (find spot_cmp q) view

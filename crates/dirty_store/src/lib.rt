@@ -6,6 +6,7 @@ mod cuts;
 mod effect;
 mod entries;
 mod node_change;
+mod runs;
 mod staged;
 mod staging;
 mod store;
