@@ -1,6 +1,6 @@
 -- Entries and what is in their boxes: each step commutes with looking into the boxes.
-use Rattle.std.proofs.Common.{◌≡◌, ℕ, ◌+◌, Bool, true, false, cond, List, [], ◌∷◌, length, map, filter, refl, sym, ap, ◌∙◌, arith}
-use Rattle.std.specs.Prelude.{not, Option, Some, None, is_some}
+use Rattle.std.proofs.Common.{◌≡◌, ℕ, ◌+◌, Bool, true, false, cond, List, [], ◌∷◌, length, map, filter, max, refl, sym, ap, ◌∙◌, arith}
+use Rattle.std.specs.Prelude.{not, nat_eq, Option, Some, None, is_some}
 use Rattle.std.specs.Option.{option_map}
 use Rattle.std.specs.Ordering.{eq_by_cmp}
 use Rattle.std.specs.declared.cmp.Ordering.{Ordering}
@@ -9,6 +9,7 @@ use Rattle.std.specs.FinMap.{find, put}
 use Rattle.std.specs.FinMap.Entries.{by_order}
 use Rattle.volume_model.specs.Places.{Spot, spot_cmp, spot_eq}
 use Rattle.volume_model.specs.Done.{Cut, is_cut}
+use Rattle.dirty_store.specs.Overlay.{width_of, dirty_places}
 use Rattle.dirty_store.specs.Entries.{Entries, AreWithin, without, uncut, all_put, set_back, put_back, there}
 
 module _ {A B : Type 0} (g : A → B) where
@@ -78,3 +79,17 @@ module _ {A B : Type 0} (g : A → B) where
   -- a look-up among entries, as one among what is in their boxes
   pub looked_up : (q : Spot) (es fs : Entries A) (all : Entries B) (o : Option A) → o ≡ find spot_cmp q es → es ≡ fs → each fs ≡ all → option_map g o ≡ find spot_cmp q all
   looked_up q es fs all o is same view = ap (option_map g) (is ∙ ap (find spot_cmp q) same) ∙ sym (find-each q fs) ∙ ap (find spot_cmp q) view
+
+  pub width-each : (es : Entries A) (number : ℕ) → width_of (each es) number ≡ width_of es number
+  width-each [] number = refl
+  width-each (e ∷ es) number = ap (λ w. cond (nat_eq e.0.0 number) (max (e.0.1 + 1) w) w) (width-each es number)
+
+  pub places-each : (es : Entries A) (number : ℕ) → dirty_places (each es) number ≡ dirty_places es number
+  places-each [] number = refl
+  places-each (e ∷ es) number = by (nat_eq e.0.0 number) (places-each es number)
+    where
+      by : (b : Bool) → dirty_places (each es) number ≡ dirty_places es number
+          → map (λ e. e.0.1) (cond b ((e.0, g e.1) ∷ filter (λ e. nat_eq e.0.0 number) (each es)) (filter (λ e. nat_eq e.0.0 number) (each es)))
+          ≡ map (λ e. e.0.1) (cond b (e ∷ filter (λ e. nat_eq e.0.0 number) es) (filter (λ e. nat_eq e.0.0 number) es))
+      by true more = ap (λ (l : List ℕ). e.0.1 ∷ l) more
+      by false more = more

@@ -1,5 +1,5 @@
 -- What keeps entries in order and within the greatest size.
-use Rattle.std.proofs.Common.{◌≡◌, ◌<◌, ◌≤◌, ℕ, suc, ◌+◌, Bool, true, false, cond, List, [], ◌∷◌, ◌++◌, length, map, filter, refl, sym, ap, subst, ◌∙◌, arith}
+use Rattle.std.proofs.Common.{◌≡◌, ◌<◌, ◌≤◌, ℕ, zero, suc, ◌+◌, Bool, true, false, cond, List, [], ◌∷◌, ◌++◌, length, get_or, map, filter, refl, sym, ap, subst, ◌∙◌, arith}
 use Rattle.std.specs.Prelude.{not, Option, Some, None, is_some}
 use Rattle.std.specs.Ordering.{eq_by_cmp}
 use Rattle.std.specs.declared.cmp.Ordering.{Ordering}
@@ -90,3 +90,10 @@ module _ {T : Type 0} where
   pub length-set_back : (s : Spot) (o : Option T) (es : Entries T) → is_sorted spot_cmp es ≡ true → length (set_back s o es) ≤ length es + there ((s, o) ∷ [])
   length-set_back s None es sorted = omega (arith, length-filter (λ x. not (spot_eq x.0 s)) es)
   length-set_back s (Some item) es sorted = omega (arith, length-put_found s item es sorted)
+
+  -- ---- by index
+
+  pub within_at : (es : Entries T) (k : ℕ) (d : Spot × T) → AreWithin es → k < length es → (get_or es k d).0.1 < 1048576
+  within_at [] k d within lt = absurd (omega arith)
+  within_at (e ∷ es) zero d within lt = within.0
+  within_at (e ∷ es) (suc k) d within lt = within_at es k d within.1 (omega arith)

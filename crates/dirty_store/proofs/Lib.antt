@@ -6,3 +6,6 @@ pub mod BackLaws
 pub mod KeptLaws
 pub mod NodeLaws
 pub mod BoxLaws
+pub mod LastLaws
+pub mod RunLaws
+pub mod WidthLaws

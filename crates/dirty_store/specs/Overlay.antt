@@ -42,11 +42,11 @@ least_cut None = 1048576
 least_cut (Some node) = node.cut_to
 
 -- the dirty places of a node
-abbrev pub dirty_places : Entries Block → ℕ → List ℕ
+abbrev pub dirty_places : {T : Type 0} → Entries T → ℕ → List ℕ
 dirty_places blocks number = map (λ e. e.0.1) (filter (λ e. nat_eq e.0.0 number) blocks)
 
 -- one more than the greatest staged slot of a directory
-abbrev pub width_of : Entries Slot → ℕ → ℕ
+abbrev pub width_of : {T : Type 0} → Entries T → ℕ → ℕ
 width_of [] directory = 0
 width_of (e ∷ es) directory = if nat_eq e.0.0 directory then max (e.0.1 + 1) (width_of es directory) else width_of es directory
 
