@@ -9,3 +9,5 @@ pub mod BoxLaws
 pub mod LastLaws
 pub mod RunLaws
 pub mod WidthLaws
+pub mod StagedLaws
+pub mod MachineLaws

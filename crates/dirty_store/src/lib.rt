@@ -5,6 +5,7 @@ mod boxes;
 mod cuts;
 mod effect;
 mod entries;
+mod laws;
 mod node_change;
 mod runs;
 mod staged;
@@ -13,6 +14,7 @@ mod store;
 
 
 pub use effect::{Effect, SlotChange, SlotChangeList, Touched, TouchedList};
+pub use laws::{dirty_are_the_machines, staged_blocks_are};
 pub use node_change::NodeChange;
 pub use staged::Staged;
 pub use store::DirtyStore;

@@ -1,0 +1,13 @@
+//! Laws of the definitions, each on a function whose contract it is.
+ghost use Rattle.dirty_store.specs.Laws.{StagedBlocksAre, DirtyAreTheMachines};
+
+/// After a staging a touched place has the block that it was touched with last, a place that was cut off and not touched is not dirty,
+/// and any other is as before.
+pub fn staged_blocks_are()
+    ensures { StagedBlocksAre }
+{}
+
+/// Where the effects of the commands since a point are staged, the dirty places are those of the volume's model, in its order.
+pub fn dirty_are_the_machines()
+    ensures { DirtyAreTheMachines }
+{}
