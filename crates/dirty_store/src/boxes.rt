@@ -12,8 +12,28 @@ use vol_numbers::{Block, InoNo};
 /// An item in a box, at a spot.
 pub(crate) type Boxed<T> = (Spot, Box<T>);
 
+/// The blocks and the slots of an effect, in boxes.
+#[derive(Drop)]
+pub(crate) struct BoxedLists {
+    pub blocks: Vec<Boxed<Block>>,
+    pub slots: Vec<Boxed<Slot>>,
+}
+
+/// The touched places of a node and the changed slots, in boxes.
+pub(crate) fn boxed_lists(alloc: Global, number: InoNo, touched: TouchedList, changes: SlotChangeList) -> Result<BoxedLists, AllocError>
+    requires places { All (λ t. t.place < 1048576) touched }
+    requires slots { All (λ c. c.slot < 65534) changes }
+    ensures blocks { IfOk result (λ lists. unboxed lists.blocks.items ≡ touched_entries number touched) }
+    ensures slots { IfOk result (λ lists. unboxed lists.slots.items ≡ slot_entries changes) }
+    ensures within { IfOk result (λ lists. AreWithin lists.blocks.items × AreWithin lists.slots.items) }
+{
+    let blocks = boxed_blocks(alloc, number, touched)?;
+    let slots = boxed_slots(alloc, changes)?;
+    Ok(BoxedLists { blocks, slots })
+}
+
 /// The touched places of a node, with their blocks in boxes.
-pub(crate) fn boxed_blocks(alloc: Global, number: InoNo, touched: TouchedList) -> Result<Vec<Boxed<Block>>, AllocError>
+fn boxed_blocks(alloc: Global, number: InoNo, touched: TouchedList) -> Result<Vec<Boxed<Block>>, AllocError>
     requires { All (λ t. t.place < 1048576) touched }
     ensures boxed { IfOk result (λ entries. unboxed entries.items ≡ touched_entries number touched) }
     ensures within { IfOk result (λ entries. AreWithin entries.items) }
@@ -26,7 +46,7 @@ pub(crate) fn boxed_blocks(alloc: Global, number: InoNo, touched: TouchedList) -
 }
 
 /// The changed slots, with their contents in boxes.
-pub(crate) fn boxed_slots(alloc: Global, changes: SlotChangeList) -> Result<Vec<Boxed<Slot>>, AllocError>
+fn boxed_slots(alloc: Global, changes: SlotChangeList) -> Result<Vec<Boxed<Slot>>, AllocError>
     requires { All (λ c. c.slot < 65534) changes }
     ensures boxed { IfOk result (λ entries. unboxed entries.items ≡ slot_entries changes) }
     ensures within { IfOk result (λ entries. AreWithin entries.items) }

@@ -7,6 +7,7 @@ mod effect;
 mod entries;
 mod laws;
 mod node_change;
+mod rooms;
 mod runs;
 mod staged;
 mod staging;

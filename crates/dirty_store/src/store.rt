@@ -3,18 +3,19 @@ ghost use Rattle.std.specs.Prelude.{◌≡◌, IfOk, OnOk, OnErr};
 ghost use Rattle.std.specs.Option.{option_copied, option_map};
 ghost use Rattle.std.specs.FinMap.{find};
 ghost use Rattle.volume_model.specs.Places.{spot_cmp};
-ghost use Rattle.dirty_store.specs.Overlay.{IsEffect, clean, staged, node_of, least_cut, whole, dirty_places, width_of};
+ghost use Rattle.dirty_store.specs.Overlay.{IsEffect, clean, staged, node_of, least_cut, dirty_places, width_of};
 ghost use Rattle.dirty_store.specs.Undo.{IsUndoable, KeepsRoom, undone};
 ghost use Rattle.dirty_store.specs.Runs.{AreRunsOf};
 
-use crate::boxes::{Boxed, boxed_blocks, boxed_slots};
+use crate::boxes::{Boxed, boxed_lists};
 use crate::cuts::bounds_of;
 use crate::effect::Effect;
 use crate::entries::get;
 use crate::node_change::{Nodes, least_cut, node_back, node_of, stage_node};
+use crate::rooms::{rooms_for, whole};
 use crate::runs::runs_of;
 use crate::staged::Staged;
-use crate::staging::{put_all_back, restage, room_for};
+use crate::staging::{put_all_back, restage};
 use block_format::{Inode, Slot};
 use std::alloc::{AllocError, Global};
 use std::collections::BTreeMap;
@@ -45,16 +46,6 @@ impl Model for DirtyStore {
     ghost invariant = { λ s. IsKept s.blocks.items s.nodes.entries s.slots.items };
 }
 
-/// Only a cut to no block forgets the slots of a directory.
-fn whole(cut_to: Option<Fbn>) -> Option<Fbn>
-    ensures { result ≡ whole cut_to }
-{
-    match cut_to {
-        Some(0) => cut_to,
-        _ => None,
-    }
-}
-
 impl DirtyStore {
     /// Nothing is staged, which takes no memory.
     pub fn new(alloc: Global) -> DirtyStore
@@ -78,19 +69,21 @@ impl DirtyStore {
         ensures unchanged { OnErr result (self.new.overlay ≡ self.old.overlay) }
         ensures room { KeepsRoom self.old self.new }
     {
-        let number = effect.number;
-        let inode = effect.inode;
-        let cut_to = effect.cut_to;
-        let blocks = boxed_blocks(alloc, number, effect.touched)?;
-        let slots = boxed_slots(alloc, effect.slots)?;
-        let blocks_were = room_for(alloc, &mut self.blocks, number, cut_to, blocks.len())?;
-        let slots_were = room_for(alloc, &mut self.slots, number, whole(cut_to), slots.len())?;
+        let Effect {
+            number,
+            inode,
+            cut_to,
+            touched,
+            slots,
+        } = effect;
+        let new = boxed_lists(alloc, number, touched, slots)?;
+        let were = rooms_for(alloc, &mut self.blocks, &mut self.slots, number, cut_to, &new)?;
         let node = stage_node(&mut self.nodes, number, inode, cut_to)?;
         Ok(Staged {
             number,
             node,
-            blocks: restage(&mut self.blocks, number, cut_to, blocks, blocks_were),
-            slots: restage(&mut self.slots, number, whole(cut_to), slots, slots_were),
+            blocks: restage(&mut self.blocks, number, cut_to, new.blocks, were.blocks),
+            slots: restage(&mut self.slots, number, whole(cut_to), new.slots, were.slots),
         })
     }
 

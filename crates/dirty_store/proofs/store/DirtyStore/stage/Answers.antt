@@ -26,14 +26,16 @@ pub returns-clause-staged : goal.returns-clause-staged
 returns-clause-staged c =
     let e = c.args.effect in
     let cut = cut_at e.number e.cut_to in
+    let forgotten = cut_at e.number c.whole.result in
+    let room = c.rooms_for.new in
     let blocks = ap unboxed c.restage.ensures.staged
-        ∙ each-all_put (λ b. b.value) c.in_ok-blocks.blocks.items (uncut cut c.room_for.new.entries.items)
-        ∙ (λ i. all_put (c.in_ok-blocks.ensures.boxed i) (each-uncut (λ b. b.value) cut c.room_for.new.entries.items i))
-        ∙ ap (λ es. all_put (touched_entries e.number e.touched) (uncut cut (unboxed es))) c.room_for.ensures.same in
+        ∙ each-all_put (λ b. b.value) c.in_ok-new.new.blocks.items (uncut cut room.blocks.items)
+        ∙ (λ i. all_put (c.in_ok-new.ensures.blocks i) (each-uncut (λ b. b.value) cut room.blocks.items i))
+        ∙ ap (λ es. all_put (touched_entries e.number e.touched) (uncut cut (unboxed es))) c.rooms_for.ensures.same.0 in
     let slots = ap unboxed c.restage-2.ensures.staged
-        ∙ each-all_put (λ b. b.value) c.in_ok-slots.slots.items (uncut (cut_at e.number c.whole-2.result) c.room_for-2.new.entries.items)
-        ∙ (λ i. all_put (c.in_ok-slots.ensures.boxed i) (each-uncut (λ b. b.value) (cut_at e.number c.whole-2.result) c.room_for-2.new.entries.items i))
-        ∙ (λ i. all_put (slot_entries e.slots) (uncut (cut_at e.number (c.whole-2.ensures i)) (unboxed (c.room_for-2.ensures.same i)))) in
+        ∙ each-all_put (λ b. b.value) c.in_ok-new.new.slots.items (uncut forgotten room.slots.items)
+        ∙ (λ i. all_put (c.in_ok-new.ensures.slots i) (each-uncut (λ b. b.value) forgotten room.slots.items i))
+        ∙ (λ i. all_put (slot_entries e.slots) (uncut (cut_at e.number (c.whole.ensures i)) (unboxed (c.rooms_for.ensures.same.1 i)))) in
     (λ i. record { blocks = blocks i; nodes = c.in_ok-node.ensures.staged i; slots = slots i })
     ∙ ap (λ h. staged h.overlay e) c.self.view_is
 
@@ -41,8 +43,8 @@ pub returns-clause-back : goal.returns-clause-back
 returns-clause-back c =
     let e = c.args.effect in
     let entries = c.self.inside.nodes.entries in
-    let blocks = sym (each-put_back (λ b. b.value) c.restage.result.items c.restage.new.entries.items) ∙ ap unboxed (c.restage.ensures.back ∙ c.room_for.ensures.same) in
-    let slots = sym (each-put_back (λ b. b.value) c.restage-2.result.items c.restage-2.new.entries.items) ∙ ap unboxed (c.restage-2.ensures.back ∙ c.room_for-2.ensures.same) in
+    let blocks = sym (each-put_back (λ b. b.value) c.restage.result.items c.restage.new.entries.items) ∙ ap unboxed (c.restage.ensures.back ∙ c.rooms_for.ensures.same.0) in
+    let slots = sym (each-put_back (λ b. b.value) c.restage-2.result.items c.restage-2.new.entries.items) ∙ ap unboxed (c.restage-2.ensures.back ∙ c.rooms_for.ensures.same.1) in
     let nodes = (λ i. node_back e.number (c.in_ok-node.ensures.was i) (c.in_ok-node.ensures.staged i))
         ∙ node_back-put e.number (node_after e.inode e.cut_to (find nat_cmp e.number entries)) entries c.self.invariant.sorted_nodes in
     (λ i. record { blocks = blocks i; nodes = nodes i; slots = slots i })
