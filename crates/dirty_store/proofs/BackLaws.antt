@@ -1,16 +1,15 @@
 -- What is put back is what was there.
-use Rattle.std.proofs.Common.{◌≡◌, ◌<◌, ◌≤◌, ℕ, ◌+◌, Bool, true, false, cond, List, [], ◌∷◌, ◌++◌, length, map, filter, refl, sym, ap, subst, ◌∙◌, arith}
-use Rattle.std.proofs.Math.Dec.{T}
+use Rattle.std.proofs.Common.{◌≡◌, ◌+◌, Bool, true, false, cond, [], ◌∷◌, ◌++◌, length, refl, sym, ap, ◌∙◌, arith}
 use Rattle.std.specs.Prelude.{not, Option, Some, None, is_some}
-use Rattle.std.specs.Ordering.{is_eq, eq_by_cmp}
-use Rattle.std.specs.Cmp.{both_ways, tied_itself, eq_by_cmp_equiv}
+use Rattle.std.specs.Ordering.{eq_by_cmp}
+use Rattle.std.specs.Cmp.{eq_by_cmp_equiv}
 use Rattle.std.specs.FinMap.{find, put, is_sorted}
 use Rattle.std.specs.FinMap.Entries.{is_sorted-put, is_sorted-where_key, find-put, find-where_key, length-put, same_entries}
 use Rattle.std.proofs.lemmas.List.Filters.{length-filter_both}
 use Rattle.volume_model.specs.Places.{Spot, spot_cmp, spot_eq}
 use Rattle.volume_model.specs.Done.{Cut, is_cut}
 use Rattle.volume_model.proofs.Order.{T_true, true_T, spot_total, spot_tie}
-use Rattle.dirty_store.specs.Entries.{Entries, without, uncut, cut_away, all_put, set_back, put_back, all_there, there}
+use Rattle.dirty_store.specs.Entries.{Entries, without, uncut, cut_away, set_back, put_back, all_there, there}
 use Rattle.dirty_store.proofs.Places.{equal_of, spot_eq_is}
 
 abbrev pub same : Spot → Spot → Bool
@@ -88,7 +87,7 @@ module _ {T : Type 0} where
   put_back-cut cut es sorted =
       alike _ es (put_back_sorted (all_there (cut_away cut es)) (uncut cut es) (uncut_sorted cut es sorted)) sorted
       (λ q. find_all_there q (cut_away cut es) (uncut cut es)
-          ∙ (λ i. cond (is_some (find_cut_away q cut es i)) (find_cut_away q cut es i) (find_uncut q cut es i)) ∙ by (is_cut cut q) (find spot_cmp q es))
+      ∙ (λ i. cond (is_some (find_cut_away q cut es i)) (find_cut_away q cut es i) (find_uncut q cut es i)) ∙ by (is_cut cut q) (find spot_cmp q es))
     where
       by : (b : Bool) (o : Option T) → cond (is_some (cond b o None)) (cond b o None) (cond (not b) o None) ≡ o
       by true None = refl

@@ -1,18 +1,16 @@
 -- Where the entries of one node, from a place on, stand among all.
-use Rattle.std.proofs.Common.{◌≡◌, ◌<◌, ◌≤◌, ℕ, zero, suc, ◌+◌, ◌-◌, Bool, true, false, cond, List, [], ◌∷◌, ◌++◌, length, take, drop, filter, refl, sym, ap, subst, ◌∙◌, arith}
+use Rattle.std.proofs.Common.{◌≡◌, ◌<◌, ◌≤◌, ℕ, suc, ◌-◌, Bool, true, false, cond, [], ◌∷◌, ◌++◌, length, take, drop, filter, refl, sym, ap, ◌∙◌, arith}
 use Rattle.std.specs.Prelude.{◌&&◌, ◌||◌, ◌==◌, not, nat_eq, nat_lt, nat_le, Some}
 use Rattle.std.specs.List.{slice_range, remove_range}
-use Rattle.std.specs.Ordering.{is_gt, is_lt, nat_cmp, ordering_then}
-use Rattle.std.specs.declared.cmp.Ordering.{Ordering}
+use Rattle.std.specs.Ordering.{is_gt, nat_cmp, ordering_then}
 use Rattle.std.specs.declared.cmp.Ordering.TheVariants.{Less, Equal, Greater}
 use Rattle.std.specs.FinMap.{is_sorted}
 use Rattle.std.specs.FinMap.Entries.{below_all}
-use Rattle.std.proofs.lemmas.Bool.{eqb-true}
 use Rattle.std.proofs.lemmas.Bool.Decides.{nat_tests}
 use Rattle.volume_model.specs.Places.{Spot, spot_cmp}
-use Rattle.volume_model.specs.Done.{Cut, is_cut}
+use Rattle.volume_model.specs.Done.{is_cut}
 use Rattle.volume_model.proofs.Order.{first_of, second_of}
-use Rattle.dirty_store.specs.Entries.{Entries, AreWithin, AreKept, AreBoundsOf, count_before, cut_at, cut_away, uncut}
+use Rattle.dirty_store.specs.Entries.{Entries, AreWithin, AreKept, AreBoundsOf, count_before}
 use Rattle.dirty_store.proofs.Search.{behind}
 
 -- ---- the tests

@@ -10,7 +10,7 @@ use Rattle.std.specs.FinMap.Entries.{by_order}
 use Rattle.volume_model.specs.Places.{Spot, spot_cmp, spot_eq}
 use Rattle.volume_model.specs.Done.{Cut, is_cut}
 use Rattle.dirty_store.specs.Overlay.{width_of, dirty_places}
-use Rattle.dirty_store.specs.Entries.{Entries, AreWithin, without, uncut, all_put, set_back, put_back, there}
+use Rattle.dirty_store.specs.Entries.{Entries, uncut, all_put, set_back, put_back, there}
 
 module _ {A B : Type 0} (g : A → B) where
   -- each entry by what g gives

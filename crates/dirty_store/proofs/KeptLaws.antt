@@ -1,14 +1,13 @@
 -- What keeps entries in order and within the greatest size.
-use Rattle.std.proofs.Common.{◌≡◌, ◌<◌, ◌≤◌, ℕ, zero, suc, ◌+◌, Bool, true, false, cond, List, [], ◌∷◌, ◌++◌, length, get_or, map, filter, refl, sym, ap, subst, ◌∙◌, arith}
-use Rattle.std.specs.Prelude.{not, Option, Some, None, is_some}
-use Rattle.std.specs.Ordering.{eq_by_cmp}
+use Rattle.std.proofs.Common.{◌≡◌, ◌<◌, ◌≤◌, ℕ, zero, suc, ◌+◌, Bool, true, false, cond, [], ◌∷◌, ◌++◌, length, get_or, filter, refl, ap, arith}
+use Rattle.std.specs.Prelude.{not, Option, Some, None}
 use Rattle.std.specs.declared.cmp.Ordering.{Ordering}
 use Rattle.std.specs.declared.cmp.Ordering.TheVariants.{Less, Equal, Greater}
-use Rattle.std.specs.FinMap.{find, put, is_sorted}
+use Rattle.std.specs.FinMap.{put, is_sorted}
 use Rattle.std.specs.FinMap.Entries.{by_order}
 use Rattle.volume_model.specs.Places.{Spot, spot_cmp, spot_eq}
-use Rattle.volume_model.specs.Done.{Cut, is_cut}
-use Rattle.dirty_store.specs.Entries.{Entries, AreWithin, AreKept, without, uncut, cut_away, cut_at, all_put, set_back, all_there, there}
+use Rattle.volume_model.specs.Done.{Cut}
+use Rattle.dirty_store.specs.Entries.{Entries, AreWithin, AreKept, uncut, cut_away, all_put, set_back, all_there, there}
 use Rattle.dirty_store.proofs.BackLaws.{set_back_sorted, uncut_sorted, length-put_found}
 
 module _ {T : Type 0} where

@@ -1,8 +1,8 @@
 -- What stands at a spot, by its place among the entries.
-use Rattle.std.proofs.Common.{◌≡◌, ◌<◌, ◌≤◌, ℕ, zero, suc, ◌+◌, Bool, true, false, cond, List, [], ◌∷◌, ◌++◌, length, take, drop, filter, refl, sym, ap, subst, ◌∙◌, get_or, arith}
-use Rattle.std.specs.Prelude.{◌&&◌, not, slice_set, Option, Some, None}
+use Rattle.std.proofs.Common.{◌≡◌, ℕ, zero, suc, true, false, cond, [], ◌∷◌, refl, sym, ap, subst, ◌∙◌, get_or, arith}
+use Rattle.std.specs.Prelude.{not, slice_set, Some, None}
 use Rattle.std.specs.List.{insert, remove}
-use Rattle.std.specs.Ordering.{is_eq, is_lt, is_gt}
+use Rattle.std.specs.Ordering.{is_eq, is_lt}
 use Rattle.std.specs.declared.cmp.Ordering.{Ordering}
 use Rattle.std.specs.declared.cmp.Ordering.TheVariants.{Less, Equal, Greater}
 use Rattle.std.specs.Cmp.{both_ways, tied_itself}
@@ -46,18 +46,22 @@ module _ {T : Type 0} where
 
   absent_gap : (spot : Spot) (es : Entries T) (i : ℕ) → IsGapFor spot es i → IsAbsent spot es
   absent_gap spot [] i gap = tt
-  absent_gap spot (e ∷ es) zero gap =
-      (ap is_eq (gap.behind 0 e (omega arith) (omega arith)), absent_gap spot es 0 (record {
-        within = omega arith;
-        before = λ k d lt. absurd (omega arith);
-        behind = λ k d le lt. gap.behind (suc k) d (omega arith) (omega arith);
-      }))
-  absent_gap spot (e ∷ es) (suc i) gap =
-      (ap is_eq (gap.before 0 e (omega arith)), absent_gap spot es i (record {
-        within = omega (arith, gap.within);
-        before = λ k d lt. gap.before (suc k) d (omega arith);
-        behind = λ k d le lt. gap.behind (suc k) d (omega arith) (omega arith);
-      }))
+  absent_gap spot (e ∷ es) zero gap = (
+    ap is_eq (gap.behind 0 e (omega arith) (omega arith)),
+    absent_gap spot es 0 (record {
+      within = omega arith;
+      before = λ k d lt. absurd (omega arith);
+      behind = λ k d le lt. gap.behind (suc k) d (omega arith) (omega arith);
+    }),
+  )
+  absent_gap spot (e ∷ es) (suc i) gap = (
+    ap is_eq (gap.before 0 e (omega arith)),
+    absent_gap spot es i (record {
+      within = omega (arith, gap.within);
+      before = λ k d lt. gap.before (suc k) d (omega arith);
+      behind = λ k d le lt. gap.behind (suc k) d (omega arith) (omega arith);
+    }),
+  )
 
   find_absent : (spot : Spot) (es : Entries T) → IsAbsent spot es → find spot_cmp spot es ≡ None
   find_absent spot [] h = refl

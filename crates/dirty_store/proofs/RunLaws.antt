@@ -1,12 +1,12 @@
 -- Runs that grow place by place.
-use Rattle.std.proofs.Common.{◌≡◌, ◌≢◌, ◌<◌, ◌≤◌, ℕ, zero, suc, ◌+◌, Bool, true, false, List, [], ◌∷◌, ◌++◌, refl, sym, ap, subst, ◌∙◌, append_assoc, arith}
-use Rattle.std.specs.Prelude.{Option, Some, None, nat_eq}
+use Rattle.std.proofs.Common.{◌≡◌, ◌≢◌, ◌<◌, ◌≤◌, ℕ, zero, suc, ◌+◌, true, false, List, [], ◌∷◌, ◌++◌, refl, sym, ap, subst, ◌∙◌, append_assoc, arith}
+use Rattle.std.specs.Prelude.{Some, None, nat_eq}
 use Rattle.std.proofs.lemmas.List.{append-nil}
 use Rattle.std.proofs.lemmas.Bool.{eqb-true}
 use Rattle.std.proofs.lemmas.Bool.Decides.{nat_tests}
 use Rattle.vol_numbers.specs.declared.runs.Run.{Run}
 use Rattle.place_words.specs.Different.{span}
-use Rattle.dirty_store.specs.Runs.{places_in, AreLongest, AreRunsOf, AreRunsSoFar, AreRunsWithin, ends_at, lengthened}
+use Rattle.dirty_store.specs.Runs.{places_in, AreLongest, AreRunsSoFar, AreRunsWithin, ends_at, lengthened}
 use Rattle.dirty_store.proofs.LastLaws.{last, with_last}
 
 -- ---- the last run

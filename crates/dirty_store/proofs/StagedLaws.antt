@@ -1,14 +1,13 @@
 -- What stands at a place after a staging.
 use Rattle.std.proofs.Common.{◌≡◌, ◌≤◌, ℕ, Bool, true, false, cond, List, [], ◌∷◌, refl, sym, ap, subst, ◌∙◌, arith}
-use Rattle.std.specs.Prelude.{◌&&◌, not, nat_eq, nat_le, Option, Some, None}
-use Rattle.std.specs.Ordering.{is_eq, eq_by_cmp}
+use Rattle.std.specs.Prelude.{not, nat_eq, Option, Some, None}
 use Rattle.std.specs.FinMap.{find, put}
 use Rattle.std.specs.FinMap.Entries.{find-put}
 use Rattle.std.proofs.lemmas.Bool.{eqb-true}
 use Rattle.std.proofs.lemmas.Bool.Decides.{nat_tests}
 use Rattle.vol_numbers.specs.declared.block.Block.{Block}
 use Rattle.volume_model.specs.Places.{Spot, spot_cmp, spot_eq}
-use Rattle.volume_model.specs.Done.{Cut, is_cut}
+use Rattle.volume_model.specs.Done.{is_cut}
 use Rattle.volume_model.proofs.Order.{spot_total}
 use Rattle.dirty_store.specs.declared.effect.Effect.{Effect}
 use Rattle.dirty_store.specs.declared.effect.Touched.{Touched}
@@ -75,7 +74,8 @@ other_is o e spot uncut_is untouched = by (nat_eq spot.0 e.number) refl ∙ find
         let spot_is : spot ≡ (e.number, spot.1) = λ i. (here i, spot.1) in
         let at = λ (s : Spot). find spot_cmp s (staged o e).blocks ≡ find spot_cmp s (uncut (cut_of e) o.blocks) in
         subst at (sym spot_is)
-            (find_touched e.number e.touched spot.1 (uncut (cut_of e) o.blocks) ∙ ap (λ t. first_of_two t (find spot_cmp (e.number, spot.1) (uncut (cut_of e) o.blocks))) (untouched here))
+        (find_touched e.number e.touched spot.1 (uncut (cut_of e) o.blocks) ∙ ap (λ t. first_of_two t (find spot_cmp (e.number, spot.1) (uncut (cut_of e) o.blocks))) (untouched here))
+
     by : (b : Bool) → nat_eq spot.0 e.number ≡ b → find spot_cmp spot (staged o e).blocks ≡ find spot_cmp spot (uncut (cut_of e) o.blocks)
     by true is = own (eqb-true _ _ is)
     by false is = find_elsewhere e.number e.touched spot (uncut (cut_of e) o.blocks) is

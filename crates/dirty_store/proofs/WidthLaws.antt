@@ -1,13 +1,12 @@
 -- The width of a directory, by its last staged slot.
-use Rattle.std.proofs.Common.{◌≡◌, ◌<◌, ◌≤◌, ℕ, suc, ◌+◌, Bool, true, false, cond, List, [], ◌∷◌, length, map, filter, max, refl, sym, ap, subst, ◌∙◌, arith}
-use Rattle.std.specs.Prelude.{◌&&◌, nat_eq, nat_le, not, Option, Some, None}
-use Rattle.std.specs.Ordering.{is_lt}
+use Rattle.std.proofs.Common.{◌≡◌, ◌<◌, ◌≤◌, ℕ, ◌+◌, Bool, true, false, cond, List, [], ◌∷◌, map, filter, max, refl, sym, ap, subst, ◌∙◌, arith}
+use Rattle.std.specs.Prelude.{nat_eq, Option, Some, None}
 use Rattle.std.specs.FinMap.{is_sorted}
-use Rattle.std.specs.FinMap.Entries.{below_all, is_sorted-where_key}
+use Rattle.std.specs.FinMap.Entries.{is_sorted-where_key}
 use Rattle.std.proofs.lemmas.Bool.{eqb-true}
 use Rattle.std.proofs.lemmas.Bool.Decides.{nat_tests}
 use Rattle.volume_model.specs.Places.{Spot, spot_cmp}
-use Rattle.volume_model.specs.Done.{Cut, is_cut}
+use Rattle.volume_model.specs.Done.{is_cut}
 use Rattle.volume_model.proofs.Order.{T_true, true_T, first_of, second_of, place_behind}
 use Rattle.dirty_store.specs.Entries.{Entries, AreWithin, cut_at, cut_away}
 use Rattle.dirty_store.specs.Overlay.{width_of, dirty_places}

@@ -1,5 +1,5 @@
 -- Lists of what stands at spots, in the order of the spots, each spot once. A spot is a node's number and a place in the node.
-use Rattle.std.specs.Prelude.{◌≡◌, ◌<◌, ◌≤◌, ℕ, suc, ◌+◌, Bool, IsTrue, not, List, [], ◌∷◌, length, slice_index_or, filter, map, if◌then◌else◌, Option, Some, None, is_some}
+use Rattle.std.specs.Prelude.{◌≡◌, ◌<◌, ◌≤◌, ℕ, suc, ◌+◌, IsTrue, not, List, [], ◌∷◌, length, slice_index_or, filter, map, if◌then◌else◌, Option, Some, None, is_some}
 use Rattle.std.specs.List.{slice_range, remove_range}
 use Rattle.std.specs.Option.{option_map}
 use Rattle.std.specs.Ordering.{is_gt}

@@ -9,7 +9,7 @@ use Rattle.volume_model.specs.Machine.{Machine}
 use Rattle.volume_model.specs.Done.{is_cut, cut_by, done, all_done}
 use Rattle.dirty_store.specs.declared.effect.Effect.{Effect}
 use Rattle.dirty_store.specs.declared.effect.Touched.{Touched}
-use Rattle.dirty_store.specs.Overlay.{Overlay, clean, cut_of, staged}
+use Rattle.dirty_store.specs.Overlay.{Overlay, cut_of, staged}
 
 -- ---- blocks after a staging
 

@@ -6,7 +6,6 @@ use Rattle.std.specs.FinMap.{find, put}
 use Rattle.vol_numbers.specs.declared.block.Block.{Block}
 use Rattle.block_format.specs.declared.inode.Inode.{Inode}
 use Rattle.block_format.specs.declared.slot.Slot.{Slot}
-use Rattle.volume_model.specs.Places.{Spot, spot_cmp}
 use Rattle.volume_model.specs.Done.{Cut}
 use Rattle.dirty_store.specs.declared.effect.Effect.{Effect}
 use Rattle.dirty_store.specs.declared.effect.Touched.{Touched}

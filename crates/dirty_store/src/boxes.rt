@@ -20,7 +20,12 @@ pub(crate) struct BoxedLists {
 }
 
 /// The touched places of a node and the changed slots, in boxes.
-pub(crate) fn boxed_lists(alloc: Global, number: InoNo, touched: TouchedList, changes: SlotChangeList) -> Result<BoxedLists, AllocError>
+pub(crate) fn boxed_lists(
+    alloc: Global,
+    number: InoNo,
+    touched: TouchedList,
+    changes: SlotChangeList,
+) -> Result<BoxedLists, AllocError>
     requires places { All (λ t. t.place < 1048576) touched }
     requires slots { All (λ c. c.slot < 65534) changes }
     ensures blocks { IfOk result (λ lists. unboxed lists.blocks.items ≡ touched_entries number touched) }
@@ -33,7 +38,11 @@ pub(crate) fn boxed_lists(alloc: Global, number: InoNo, touched: TouchedList, ch
 }
 
 /// The touched places of a node, with their blocks in boxes.
-fn boxed_blocks(alloc: Global, number: InoNo, touched: TouchedList) -> Result<Vec<Boxed<Block>>, AllocError>
+fn boxed_blocks(
+    alloc: Global,
+    number: InoNo,
+    touched: TouchedList,
+) -> Result<Vec<Boxed<Block>>, AllocError>
     requires { All (λ t. t.place < 1048576) touched }
     ensures boxed { IfOk result (λ entries. unboxed entries.items ≡ touched_entries number touched) }
     ensures within { IfOk result (λ entries. AreWithin entries.items) }
@@ -52,14 +61,23 @@ fn boxed_slots(alloc: Global, changes: SlotChangeList) -> Result<Vec<Boxed<Slot>
     ensures within { IfOk result (λ entries. AreWithin entries.items) }
 {
     let mut entries = Vec::with_capacity(alloc, changes.len())?;
-    for SlotChange { directory, slot, content } in changes.into_vec() {
+    for SlotChange {
+        directory,
+        slot,
+        content,
+    } in changes.into_vec() {
         push_boxed(alloc, &mut entries, (directory, slot), content)?;
     }
     Ok(entries)
 }
 
 /// Boxes an item, and pushes it.
-fn push_boxed<T: Drop>(alloc: Global, entries: &mut Vec<Boxed<T>>, spot: Spot, item: T) -> Result<(), AllocError>
+fn push_boxed<T: Drop>(
+    alloc: Global,
+    entries: &mut Vec<Boxed<T>>,
+    spot: Spot,
+    item: T,
+) -> Result<(), AllocError>
     requires spot { spot.1 < 1048576 }
     requires within { AreWithin entries.old.items }
     ensures pushed { OnOk result (unboxed entries.new.items ≡ unboxed entries.old.items ++ (spot, item) ∷ []) }

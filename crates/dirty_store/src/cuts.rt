@@ -37,7 +37,12 @@ pub(crate) fn cut_len<V>(entries: &[(Spot, V)], number: InoNo, cut_to: Option<Fb
 }
 
 /// Cuts a node where there is a cut, and keeps what is cut away as what was there. There is room for it.
-pub(crate) fn cut<V: Drop>(entries: &mut Vec<(Spot, V)>, number: InoNo, cut_to: Option<Fbn>, was: &mut Vec<Was<V>>)
+pub(crate) fn cut<V: Drop>(
+    entries: &mut Vec<(Spot, V)>,
+    number: InoNo,
+    cut_to: Option<Fbn>,
+    was: &mut Vec<Was<V>>,
+)
     requires kept { AreKept entries.old.items }
     requires limit { ForSome cut_to (λ from. from ≤ 1048576) }
     requires room { vec_len was.old + length (cut_away (cut_at number cut_to) entries.old.items) ≤ vec_capacity was.old }

@@ -13,7 +13,6 @@ mod staged;
 mod staging;
 mod store;
 
-
 pub use effect::{Effect, SlotChange, SlotChangeList, Touched, TouchedList};
 pub use laws::{dirty_are_the_machines, staged_blocks_are};
 pub use node_change::NodeChange;

@@ -53,7 +53,12 @@ pub(crate) fn node_of(nodes: &Nodes, number: InoNo) -> Option<NodeChange>
 }
 
 /// Stages a node, and gives what was staged of it before.
-pub(crate) fn stage_node(nodes: &mut Nodes, number: InoNo, inode: Inode, cut_to: Option<Fbn>) -> Result<Option<NodeChange>, AllocError>
+pub(crate) fn stage_node(
+    nodes: &mut Nodes,
+    number: InoNo,
+    inode: Inode,
+    cut_to: Option<Fbn>,
+) -> Result<Option<NodeChange>, AllocError>
     ensures staged { OnOk result (nodes.new.entries ≡ put nat_cmp number (node_after inode cut_to (find nat_cmp number nodes.old.entries)) nodes.old.entries) }
     ensures was { IfOk result (λ was. was ≡ find nat_cmp number nodes.old.entries) }
     ensures unchanged { OnErr result (nodes.new.entries ≡ nodes.old.entries) }

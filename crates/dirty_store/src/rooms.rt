@@ -29,7 +29,14 @@ pub(crate) fn whole(cut_to: Option<Fbn>) -> Option<Fbn>
 }
 
 /// Makes room for new blocks and slots, and for what they and a cut replace.
-pub(crate) fn rooms_for(alloc: Global, blocks: &mut Vec<Boxed<Block>>, slots: &mut Vec<Boxed<Slot>>, number: InoNo, cut_to: Option<Fbn>, new: &BoxedLists) -> Result<Rooms, AllocError>
+pub(crate) fn rooms_for(
+    alloc: Global,
+    blocks: &mut Vec<Boxed<Block>>,
+    slots: &mut Vec<Boxed<Slot>>,
+    number: InoNo,
+    cut_to: Option<Fbn>,
+    new: &BoxedLists,
+) -> Result<Rooms, AllocError>
     requires kept_blocks { AreKept blocks.old.items }
     requires kept_slots { AreKept slots.old.items }
     requires limit { ForSome cut_to (λ from. from ≤ 1048576) }

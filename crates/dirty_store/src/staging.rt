@@ -9,7 +9,13 @@ use std::alloc::{AllocError, Global};
 use vol_numbers::{Fbn, InoNo};
 
 /// Makes room for new entries, and for what a cut and they replace.
-pub(crate) fn room_for<V>(alloc: Global, entries: &mut Vec<(Spot, V)>, number: InoNo, cut_to: Option<Fbn>, new: usize) -> Result<Vec<Was<V>>, AllocError>
+pub(crate) fn room_for<V>(
+    alloc: Global,
+    entries: &mut Vec<(Spot, V)>,
+    number: InoNo,
+    cut_to: Option<Fbn>,
+    new: usize,
+) -> Result<Vec<Was<V>>, AllocError>
     requires kept { AreKept entries.old.items }
     requires limit { ForSome cut_to (λ from. from ≤ 1048576) }
     ensures same { entries.new.items ≡ entries.old.items }
@@ -45,7 +51,13 @@ fn put_all<V: Drop>(entries: &mut Vec<(Spot, V)>, new: Vec<(Spot, V)>, was: &mut
 }
 
 /// Cuts, then puts, and gives what was there. There is room for all.
-pub(crate) fn restage<V: Drop>(entries: &mut Vec<(Spot, V)>, number: InoNo, cut_to: Option<Fbn>, new: Vec<(Spot, V)>, mut was: Vec<Was<V>>) -> Vec<Was<V>>
+pub(crate) fn restage<V: Drop>(
+    entries: &mut Vec<(Spot, V)>,
+    number: InoNo,
+    cut_to: Option<Fbn>,
+    new: Vec<(Spot, V)>,
+    mut was: Vec<Was<V>>,
+) -> Vec<Was<V>>
     requires kept { AreKept entries.old.items }
     requires limit { ForSome cut_to (λ from. from ≤ 1048576) }
     requires within { AreWithin new.items }

@@ -77,13 +77,26 @@ impl DirtyStore {
             slots,
         } = effect;
         let new = boxed_lists(alloc, number, touched, slots)?;
-        let were = rooms_for(alloc, &mut self.blocks, &mut self.slots, number, cut_to, &new)?;
+        let were = rooms_for(
+            alloc,
+            &mut self.blocks,
+            &mut self.slots,
+            number,
+            cut_to,
+            &new,
+        )?;
         let node = stage_node(&mut self.nodes, number, inode, cut_to)?;
         Ok(Staged {
             number,
             node,
             blocks: restage(&mut self.blocks, number, cut_to, new.blocks, were.blocks),
-            slots: restage(&mut self.slots, number, whole(cut_to), new.slots, were.slots),
+            slots: restage(
+                &mut self.slots,
+                number,
+                whole(cut_to),
+                new.slots,
+                were.slots,
+            ),
         })
     }
 

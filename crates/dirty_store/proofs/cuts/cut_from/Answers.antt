@@ -1,4 +1,4 @@
-use Rattle.std.proofs.Common.{◌≡◌, ◌≤◌, ◌<◌, ◌+◌, ◌++◌, ◌∷◌, [], ℕ, List, refl, sym, ap, ◌∙◌, subst, length, map, vec_len, vec_capacity, append_assoc, length-append, arith}
+use Rattle.std.proofs.Common.{◌≡◌, ◌<◌, ◌++◌, ◌∷◌, [], List, refl, sym, ap, ◌∙◌, subst, length, append_assoc, length-append, arith}
 use Rattle.std.specs.Prelude.{Some}
 use Rattle.std.proofs.lemmas.List.{append-nil, map-append}
 use Rattle.std.specs.List.{slice_range}
@@ -23,8 +23,8 @@ keep-requires g c =
     let inv = c.loop-spot.invariant in
     let cut = cut_away (cut_at c.args.number (Some c.args.from)) in
     let drained : drain_items c.into_iter-spot-iterator.result ≡ cut c.args.entries.now.items =
-        ap drain_items c.into_iter-spot-iterator.ensures.into_iter_gives ∙ c.drain-spot-items.ensures.rest
-        ∙ subst (λ es. slice_range es c.bounds_of-bounds.result.start c.bounds_of-bounds.result.end ≡ cut es) c.deref.ensures.value c.bounds_of-bounds.ensures.inside in
+    ap drain_items c.into_iter-spot-iterator.ensures.into_iter_gives ∙ c.drain-spot-items.ensures.rest
+    ∙ subst (λ es. slice_range es c.bounds_of-bounds.result.start c.bounds_of-bounds.result.end ≡ cut es) c.deref.ensures.value c.bounds_of-bounds.ensures.inside in
     omega (arith, inv.len, inv.room, c.requires.room, fewer c.loop-spot.yielded _ _ _ _ (inv.rest ∙ drained) c.in-Some.ensures.steps.0)
 
 pub loop-spot-preserved : goal.loop-spot-preserved
@@ -45,8 +45,8 @@ returns-clause-was g c =
     let inv = c.loop-spot.invariant in
     let cut = cut_away (cut_at c.args.number (Some c.args.from)) in
     let drained : drain_items c.into_iter-spot-iterator.result ≡ cut c.args.entries.now.items =
-        ap drain_items c.into_iter-spot-iterator.ensures.into_iter_gives ∙ c.drain-spot-items.ensures.rest
-        ∙ subst (λ es. slice_range es c.bounds_of-bounds.result.start c.bounds_of-bounds.result.end ≡ cut es) c.deref.ensures.value c.bounds_of-bounds.ensures.inside in
+    ap drain_items c.into_iter-spot-iterator.ensures.into_iter_gives ∙ c.drain-spot-items.ensures.rest
+    ∙ subst (λ es. slice_range es c.bounds_of-bounds.result.start c.bounds_of-bounds.result.end ≡ cut es) c.deref.ensures.value c.bounds_of-bounds.ensures.inside in
     let all = sym (append-nil c.loop-spot.yielded) ∙ ap (λ r. c.loop-spot.yielded ++ r) (sym c.in-None.ensures.steps.0) ∙ inv.rest ∙ drained in
     inv.was ∙ ap (λ r. c.args.was.now.items ++ all_there r) all
 

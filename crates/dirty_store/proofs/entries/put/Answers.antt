@@ -1,4 +1,4 @@
-use Rattle.std.proofs.Common.{◌≡◌, sym, ap, ◌∙◌, slice_set}
+use Rattle.std.proofs.Common.{sym, ap, ◌∙◌, slice_set}
 use Rattle.std.specs.Prelude.{Some}
 use Rattle.dirty_store.proofs.Places.{find_place, find_gap, put_place, put_gap, place_in, gap_in}
 use Rattle.dirty_store.proofs.entries.put.Goals as goal

@@ -1,4 +1,4 @@
-use Rattle.std.proofs.Common.{◌≡◌, sym, ap, ◌∙◌}
+use Rattle.std.proofs.Common.{sym, ap, ◌∙◌}
 use Rattle.std.specs.Prelude.{Some}
 use Rattle.dirty_store.proofs.Places.{find_place, find_gap, without_place, without_gap, place_in, gap_in}
 use Rattle.dirty_store.proofs.entries.take.Goals as goal

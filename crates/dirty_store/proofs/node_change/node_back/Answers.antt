@@ -1,5 +1,4 @@
-use Rattle.std.proofs.Common.{◌≡◌, ℕ, sym, ap, ◌∙◌}
-use Rattle.std.specs.Ordering.{nat_cmp}
+use Rattle.std.proofs.Common.{sym, ap, ◌∙◌}
 use Rattle.dirty_store.specs.Undo.{node_back}
 use Rattle.dirty_store.proofs.NodeLaws.{insert_put, succeeded, none_or_some}
 use Rattle.dirty_store.proofs.node_change.node_back.Goals as goal

@@ -1,6 +1,6 @@
-use Rattle.std.proofs.Common.{◌≡◌, ◌≤◌, ◌+◌, sym, ◌∙◌, arith}
+use Rattle.std.proofs.Common.{sym, ◌∙◌, arith}
 use Rattle.dirty_store.proofs.LastLaws.{last_is}
-use Rattle.dirty_store.proofs.RunLaws.{last_some, last_within, last_none}
+use Rattle.dirty_store.proofs.RunLaws.{last_some, last_within}
 use Rattle.dirty_store.proofs.runs.ends_at.Goals as goal
 
 pub overflow_add-result : goal.overflow_add-result

@@ -1,4 +1,4 @@
-use Rattle.std.proofs.Common.{◌≡◌, ◌<◌, ◌≤◌, ◌+◌, ◌-◌, refl, sym, ap, subst, ◌∙◌, arith, length, vec_len, get_or}
+use Rattle.std.proofs.Common.{◌≡◌, ◌<◌, ◌+◌, ◌-◌, refl, ap, ◌∙◌, arith, length, vec_len, get_or}
 use Rattle.std.specs.Prelude.{Some, slice_set}
 use Rattle.vol_numbers.specs.declared.runs.Run.{Run}
 use Rattle.dirty_store.proofs.LastLaws.{last, last_read, with_last_is}
@@ -11,7 +11,7 @@ overflow_add-last c =
     let len : vec_len runs ≡ length runs.items = omega arith in
     let some : 0 < vec_len runs = c.in-Some.ensures.variant.0 refl in
     let is : last runs.items ≡ Some c.in-Some.last.now =
-        last_read runs.items c.in-Some.last.now (omega arith) (c.in-Some.ensures.value ∙ ap (λ n. get_or runs.items (n - 1) c.in-Some.last.now) len) in
+    last_read runs.items c.in-Some.last.now (omega arith) (c.in-Some.ensures.value ∙ ap (λ n. get_or runs.items (n - 1) c.in-Some.last.now) len) in
     omega (arith, last_within runs.items c.in-Some.last.now c.requires is)
 
 pub returns-in-Some : goal.returns-in-Some

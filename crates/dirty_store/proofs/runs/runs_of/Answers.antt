@@ -1,4 +1,4 @@
-use Rattle.std.proofs.Common.{◌≡◌, ◌<◌, ◌++◌, ◌∷◌, [], sym, ap, subst, ◌∙◌, map, take}
+use Rattle.std.proofs.Common.{◌<◌, ◌++◌, ◌∷◌, [], sym, ap, subst, ◌∙◌, map, take}
 use Rattle.std.proofs.lemmas.List.{take_more, map-append}
 use Rattle.dirty_store.specs.Runs.{AreRunsSoFar}
 use Rattle.dirty_store.proofs.KeptLaws.{within_at}
@@ -14,5 +14,5 @@ loop-entry-preserved g c =
     let i = c.loop-entry.entry-index in
     let x = c.entry-item.result in
     let places = ap (map (λ e. e.0.1)) (take_more es i x c.loop-entry-test.true ∙ ap (λ e. take i es ++ e ∷ []) (sym c.entry-item.is))
-        ∙ map-append (λ e. e.0.1) (take i es) (x ∷ []) in
+    ∙ map-append (λ e. e.0.1) (take i es) (x ∷ []) in
     subst (λ ps. AreRunsSoFar ps c.add_place.new.runs.items) (sym places) (c.in_ok-add_place.ensures (map (λ e. e.0.1) (take i es)) c.loop-entry.invariant)

@@ -1,6 +1,6 @@
-use Rattle.std.proofs.Common.{◌≡◌, ◌≤◌, ◌<◌, ◌+◌, ◌++◌, ◌∷◌, [], ℕ, List, refl, sym, ap, ◌∙◌, subst, length, cond, append_assoc, length-append, arith}
+use Rattle.std.proofs.Common.{◌≡◌, ◌<◌, ◌+◌, ◌++◌, ◌∷◌, [], sym, ap, ◌∙◌, subst, length, cond, append_assoc, length-append, arith}
 use Rattle.std.specs.Prelude.{is_some}
-use Rattle.std.specs.FinMap.{find, put}
+use Rattle.std.specs.FinMap.{put}
 use Rattle.std.specs.Vec.Iter.{into_iter_items}
 use Rattle.volume_model.specs.Places.{spot_cmp}
 use Rattle.dirty_store.specs.Entries.{AreKept, AreWithin, put_back, set_back, there}
@@ -21,9 +21,9 @@ loop-spot-preserved g c =
     let all : into_iter_items c.into_iter-spot-iterator.result ≡ c.args.new.items = c.into_iter-spot-iterator.ensures.into_iter_gives.0 in
     let here : spot.1 < 1048576 = within_next yielded (spot, item) next (subst AreWithin (sym (split ∙ all)) c.requires.within) in
     let number : length c.put-old.new.entries.items + cond (is_some c.put-old.result) 1 0 ≡ length es + 1 =
-        ap (λ r. length r + cond (is_some c.put-old.result) 1 0) c.put-old.ensures.put
-        ∙ ap (λ o. length (put spot_cmp spot item es) + cond (is_some o) 1 0) c.put-old.ensures.was
-        ∙ length-put_found spot item es inv.kept.in_order in
+    ap (λ r. length r + cond (is_some c.put-old.result) 1 0) c.put-old.ensures.put
+    ∙ ap (λ o. length (put spot_cmp spot item es) + cond (is_some o) 1 0) c.put-old.ensures.was
+    ∙ length-put_found spot item es inv.kept.in_order in
     let was_there = ap there c.keep.ensures.kept ∙ there-append was ((spot, c.put-old.result) ∷ []) in
     record {
       rest = append_assoc yielded ((spot, item) ∷ []) next ∙ split;

@@ -1,5 +1,5 @@
-use Rattle.std.proofs.Common.{◌≡◌, ◌≤◌, ◌<◌, ◌+◌, ◌++◌, ◌∷◌, [], sym, ap, ◌∙◌, subst, length, arith}
-use Rattle.dirty_store.specs.Entries.{AreKept, AreWithin, put_back, there}
+use Rattle.std.proofs.Common.{◌∷◌, [], sym, ap, ◌∙◌, subst, arith}
+use Rattle.dirty_store.specs.Entries.{AreWithin, put_back, there}
 use Rattle.dirty_store.proofs.BackLaws.{put_back-append, there-append}
 use Rattle.dirty_store.proofs.KeptLaws.{within_last}
 use Rattle.dirty_store.proofs.staging.put_all_back.Goals as goal

@@ -1,4 +1,4 @@
-use Rattle.std.proofs.Common.{◌≡◌, ◌≤◌, ◌+◌, ◌∷◌, [], sym, ap, subst, ◌∙◌, arith, length}
+use Rattle.std.proofs.Common.{◌≤◌, ◌+◌, ◌∷◌, [], sym, subst, length}
 use Rattle.std.specs.Prelude.{Some, None}
 use Rattle.dirty_store.specs.Entries.{AreKept, set_back, there}
 use Rattle.dirty_store.proofs.KeptLaws.{set_back_kept, length-set_back}
@@ -12,7 +12,7 @@ pub returns-in-Some-clause-count : goal.returns-in-Some-clause-count
 returns-in-Some-clause-count g c =
     let items = c.args.entries.now.items in
     let room = subst (λ o. length (set_back c.args.spot (Some c.in-Some.item) items) ≤ length items + there ((c.args.spot, o) ∷ [])) (sym c.in-Some.is)
-        (length-set_back c.args.spot (Some c.in-Some.item) items c.requires.kept.in_order) in
+    (length-set_back c.args.spot (Some c.in-Some.item) items c.requires.kept.in_order) in
     subst (λ es. length es ≤ length items + there ((c.args.spot, c.args.item) ∷ [])) (sym c.put.ensures.put) room
 
 pub returns-in-None-clause-kept : goal.returns-in-None-clause-kept
@@ -23,5 +23,5 @@ pub returns-in-None-clause-count : goal.returns-in-None-clause-count
 returns-in-None-clause-count g c =
     let items = c.args.entries.now.items in
     let room = subst (λ o. length (set_back c.args.spot None items) ≤ length items + there ((c.args.spot, o) ∷ [])) (sym c.in-None.is)
-        (length-set_back c.args.spot None items c.requires.kept.in_order) in
+    (length-set_back c.args.spot None items c.requires.kept.in_order) in
     subst (λ es. length es ≤ length items + there ((c.args.spot, c.args.item) ∷ [])) (sym c.take.ensures.taken) room

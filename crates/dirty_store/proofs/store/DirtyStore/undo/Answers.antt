@@ -1,4 +1,4 @@
-use Rattle.std.proofs.Common.{◌≡◌, ◌≤◌, ◌+◌, sym, ap, ◌∙◌, subst, length, true, arith}
+use Rattle.std.proofs.Common.{◌≡◌, sym, ap, ◌∙◌, subst, length, true, arith}
 use Rattle.std.specs.Ordering.{nat_cmp}
 use Rattle.std.specs.FinMap.{is_sorted}
 use Rattle.dirty_store.specs.Entries.{unboxed, there}
@@ -9,13 +9,27 @@ use Rattle.dirty_store.proofs.store.DirtyStore.undo.Goals as goal
 
 pub put_all_back-requires-clause-room : goal.put_all_back-requires-clause-room
 put_all_back-requires-clause-room c =
-    omega (arith, c.requires.blocks, ap (λ h. length h.overlay.blocks) c.self.view_is, ap (λ h. h.block_room) c.self.view_is, ap (λ r. there r.blocks) c.staged.view_is,
-    length-each (λ b. b.value) c.self.inside.blocks.items, there-each (λ b. b.value) c.staged.inside.blocks.items)
+    omega (
+      arith,
+      c.requires.blocks,
+      ap (λ h. length h.overlay.blocks) c.self.view_is,
+      ap (λ h. h.block_room) c.self.view_is,
+      ap (λ r. there r.blocks) c.staged.view_is,
+      length-each (λ b. b.value) c.self.inside.blocks.items,
+      there-each (λ b. b.value) c.staged.inside.blocks.items,
+    )
 
 pub put_all_back-requires-2-clause-room : goal.put_all_back-requires-2-clause-room
 put_all_back-requires-2-clause-room c =
-    omega (arith, c.requires.slots, ap (λ h. length h.overlay.slots) c.self.view_is, ap (λ h. h.slot_room) c.self.view_is, ap (λ r. there r.slots) c.staged.view_is,
-    length-each (λ b. b.value) c.self.inside.slots.items, there-each (λ b. b.value) c.staged.inside.slots.items)
+    omega (
+      arith,
+      c.requires.slots,
+      ap (λ h. length h.overlay.slots) c.self.view_is,
+      ap (λ h. h.slot_room) c.self.view_is,
+      ap (λ r. there r.slots) c.staged.view_is,
+      length-each (λ b. b.value) c.self.inside.slots.items,
+      there-each (λ b. b.value) c.staged.inside.slots.items,
+    )
 
 pub invariant_of-self : goal.invariant_of-self
 invariant_of-self c = record {

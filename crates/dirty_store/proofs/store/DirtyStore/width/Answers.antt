@@ -1,8 +1,7 @@
-use Rattle.std.proofs.Common.{◌≡◌, ◌<◌, ◌+◌, ◌-◌, sym, ap, subst, ◌∙◌, length, arith}
-use Rattle.std.specs.Prelude.{Some, None, Option}
+use Rattle.std.proofs.Common.{sym, ap, ◌∙◌, arith}
+use Rattle.std.specs.Prelude.{Some}
 use Rattle.std.specs.List.{slice_range}
-use Rattle.volume_model.specs.Places.{Spot}
-use Rattle.dirty_store.specs.Entries.{Entries, cut_at, cut_away}
+use Rattle.dirty_store.specs.Entries.{cut_at, cut_away}
 use Rattle.dirty_store.specs.Overlay.{width_of}
 use Rattle.dirty_store.proofs.BoxLaws.{width-each}
 use Rattle.dirty_store.proofs.KeptLaws.{filter_within}
@@ -16,7 +15,7 @@ overflow_add-result c =
     let items = c.self.inside.slots.items in
     let own = cut_away (cut_at c.args.directory (Some 0)) items in
     let part = ap (λ es. slice_range es bounds.start bounds.end) (c.deref-2.ensures.value ∙ sym c.deref.ensures.value)
-        ∙ c.bounds_of-bounds.ensures.inside ∙ ap (cut_away (cut_at c.args.directory (Some 0))) c.deref.ensures.value in
+    ∙ c.bounds_of-bounds.ensures.inside ∙ ap (cut_away (cut_at c.args.directory (Some 0))) c.deref.ensures.value in
     let is = ap last (sym part) ∙ sym (last_is (slice_range c.deref-2.result.now bounds.start bounds.end)) ∙ sym c.in-Some.ensures.value in
     omega (arith, last_within own c.in-Some.last.now (filter_within _ items c.self.invariant.kept_slots.within) is)
 
@@ -27,12 +26,12 @@ returns-in-Some c =
     let directory = c.args.directory in
     let own = cut_away (cut_at directory (Some 0)) items in
     let part = ap (λ es. slice_range es bounds.start bounds.end) (c.deref-2.ensures.value ∙ sym c.deref.ensures.value)
-        ∙ c.bounds_of-bounds.ensures.inside ∙ ap (cut_away (cut_at directory (Some 0))) c.deref.ensures.value in
+    ∙ c.bounds_of-bounds.ensures.inside ∙ ap (cut_away (cut_at directory (Some 0))) c.deref.ensures.value in
     let is = ap last (sym part) ∙ sym (last_is (slice_range c.deref-2.result.now bounds.start bounds.end)) ∙ sym c.in-Some.ensures.value in
     sym (ap (λ h. width_of h.overlay.slots directory) (sym c.self.view_is)
-        ∙ width-each (λ b. b.value) items directory ∙ sym (own_width directory items)
-        ∙ width_last directory own (own_are directory items) (own_sorted directory items c.self.invariant.kept_slots.in_order)
-        ∙ ap end_of is)
+    ∙ width-each (λ b. b.value) items directory ∙ sym (own_width directory items)
+    ∙ width_last directory own (own_are directory items) (own_sorted directory items c.self.invariant.kept_slots.in_order)
+    ∙ ap end_of is)
 
 pub returns-in-None : goal.returns-in-None
 returns-in-None c =
@@ -41,9 +40,9 @@ returns-in-None c =
     let directory = c.args.directory in
     let own = cut_away (cut_at directory (Some 0)) items in
     let part = ap (λ es. slice_range es bounds.start bounds.end) (c.deref-2.ensures.value ∙ sym c.deref.ensures.value)
-        ∙ c.bounds_of-bounds.ensures.inside ∙ ap (cut_away (cut_at directory (Some 0))) c.deref.ensures.value in
+    ∙ c.bounds_of-bounds.ensures.inside ∙ ap (cut_away (cut_at directory (Some 0))) c.deref.ensures.value in
     let is = ap last (sym part) ∙ sym (last_is (slice_range c.deref-2.result.now bounds.start bounds.end)) ∙ sym c.in-None.ensures.value in
     sym (ap (λ h. width_of h.overlay.slots directory) (sym c.self.view_is)
-        ∙ width-each (λ b. b.value) items directory ∙ sym (own_width directory items)
-        ∙ width_last directory own (own_are directory items) (own_sorted directory items c.self.invariant.kept_slots.in_order)
-        ∙ ap end_of is)
+    ∙ width-each (λ b. b.value) items directory ∙ sym (own_width directory items)
+    ∙ width_last directory own (own_are directory items) (own_sorted directory items c.self.invariant.kept_slots.in_order)
+    ∙ ap end_of is)
