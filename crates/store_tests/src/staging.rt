@@ -217,7 +217,12 @@ fn are_runs(runs: &[Run], want: &[(u32, u32)]) -> bool {
     runs.len() == want.len()
 }
 
-fn has_runs(alloc: Global, store: &DirtyStore, number: u32, want: &[(u32, u32)]) -> Result<bool, AllocError> {
+fn has_runs(
+    alloc: Global,
+    store: &DirtyStore,
+    number: u32,
+    want: &[(u32, u32)],
+) -> Result<bool, AllocError> {
     let runs = store.runs_of(alloc, number)?;
     Ok(are_runs(runs.as_slice(), want))
 }
