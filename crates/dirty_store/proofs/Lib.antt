@@ -9,5 +9,6 @@ pub mod BoxLaws
 pub mod LastLaws
 pub mod RunLaws
 pub mod WidthLaws
+pub mod OneRuns
 pub mod StagedLaws
 pub mod MachineLaws

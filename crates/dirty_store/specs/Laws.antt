@@ -2,6 +2,7 @@
 use Rattle.std.specs.Prelude.{◌≡◌, ◌≤◌, ℕ, true, false, List, [], ◌∷◌, map, nat_eq, if◌then◌else◌, Option, Some, None}
 use Rattle.std.specs.FinMap.{find}
 use Rattle.vol_numbers.specs.declared.block.Block.{Block}
+use Rattle.vol_numbers.specs.declared.runs.Run.{Run}
 use Rattle.tree_model.specs.declared.command.Command.{Command}
 use Rattle.tree_model.specs.Touched.{touched}
 use Rattle.volume_model.specs.Places.{Spot, spot_cmp, has_spot}
@@ -10,6 +11,7 @@ use Rattle.volume_model.specs.Done.{is_cut, cut_by, done, all_done}
 use Rattle.dirty_store.specs.declared.effect.Effect.{Effect}
 use Rattle.dirty_store.specs.declared.effect.Touched.{Touched}
 use Rattle.dirty_store.specs.Overlay.{Overlay, cut_of, staged}
+use Rattle.dirty_store.specs.Runs.{AreRunsOf}
 
 -- ---- blocks after a staging
 
@@ -57,3 +59,9 @@ all_staged o (e ∷ es) = all_staged (staged o e) es
 abbrev pub DirtyAreTheMachines : Type 0
 DirtyAreTheMachines = (m : Machine) (commands : List Command) (effects : List Effect) (o : Overlay)
     → dirty_spots o ≡ m.dirty → AreEffectsOf m commands effects → dirty_spots (all_staged o effects) ≡ (all_done m commands).dirty
+
+-- ---- runs
+
+-- There is one list of runs of some places.
+abbrev pub OneListOfRuns : Type 0
+OneListOfRuns = (places : List ℕ) (ps qs : List Run) → AreRunsOf places ps → AreRunsOf places qs → ps ≡ qs
