@@ -1,0 +1,14 @@
+pub mod Search
+pub mod Places
+pub mod Halves
+pub mod Bounds
+pub mod BackLaws
+pub mod KeptLaws
+pub mod NodeLaws
+pub mod BoxLaws
+pub mod LastLaws
+pub mod RunLaws
+pub mod WidthLaws
+pub mod OneRuns
+pub mod StagedLaws
+pub mod MachineLaws

@@ -1,0 +1,5 @@
+pub mod Entries
+pub mod Overlay
+pub mod Undo
+pub mod Runs
+pub mod Laws

@@ -1,0 +1,20 @@
+//! What accepted commands have staged since the last point: dirty blocks, nodes and directory slots, and how the last staging is undone.
+#![tactic(auto)]
+
+mod boxes;
+mod cuts;
+mod effect;
+mod entries;
+mod laws;
+mod node_change;
+mod rooms;
+mod runs;
+mod staged;
+mod staging;
+mod store;
+
+pub use effect::{Effect, SlotChange, SlotChangeList, Touched, TouchedList};
+pub use laws::{dirty_are_the_machines, one_list_of_runs, staged_blocks_are};
+pub use node_change::NodeChange;
+pub use staged::Staged;
+pub use store::DirtyStore;
