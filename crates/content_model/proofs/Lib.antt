@@ -1,0 +1,4 @@
+pub mod Collecting
+pub mod Kin
+pub mod Order
+pub mod Using
