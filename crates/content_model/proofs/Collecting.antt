@@ -21,7 +21,7 @@ in_order_longer n (m ∷ ms) = by (nat_le n m) (in_order_longer n ms)
     by true more = omega arith
     by false more = omega (arith, more)
 
-included_longer : (n : ℕ) (ms : List ℕ) → length (included n ms) ≤ length ms + 1
+pub included_longer : (n : ℕ) (ms : List ℕ) → length (included n ms) ≤ length ms + 1
 included_longer n ms = by (is_among ms n)
   where
     by : (t : Bool) → length (cond t ms (in_order n ms)) ≤ length ms + 1

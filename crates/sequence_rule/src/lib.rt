@@ -1,0 +1,13 @@
+//! Which runs of dirty blocks are shared: the rule turned into a body, plain on purpose.
+#![tactic(auto)]
+
+mod choosing;
+mod dirty;
+mod fault;
+mod matched;
+mod matching;
+mod sorting;
+
+pub use dirty::{BlockList, DirtyRun, DirtyRunList, DirtyRuns};
+pub use fault::FindFault;
+pub use volume_model::Sequence;
