@@ -1,7 +1,7 @@
 -- What a disk block holds, and which blocks match.
-use Rattle.std.proofs.Common.{◌≡◌, ℕ, suc, ◌+◌, ◌<◌, Bool, true, false, cond, List, [], ◌∷◌, Some, None, refl, sym, ap, subst, ◌∙◌, arith}
+use Rattle.std.proofs.Common.{◌≡◌, ℕ, ◌<◌, Bool, true, false, cond, List, [], ◌∷◌, Some, None, refl, sym, ap, subst, ◌∙◌, arith}
 use Rattle.std.specs.Prelude.{◌&&◌, ◌||◌, nat_eq, slice_get, option_map, unwrap_or, Option}
-use Rattle.std.specs.List.{All, AllByRecursion}
+use Rattle.std.specs.List.{AllByRecursion}
 use Rattle.std.specs.Cmp.Lexicographic.{pointwise}
 use Rattle.std.proofs.lemmas.Bool.Decides.{nat_tests}
 use Rattle.std.proofs.lemmas.List.Elements.{recursion_from_All}
@@ -87,6 +87,10 @@ kin_matches contents cache block at fit = by (is_cached cache at) refl (is_among
     by true cached false among false same = refl
     by false cached true among v same = let there = kin_cached (sha256 block.bytes) cache at among in cc
     by false cached false among v same = refl
+
+-- what is found among the blocks of a list is what is found among those that are the same
+pub joined : (found a b held matched : Bool) → found ≡ (a && held) → a ≡ b → (b && held) ≡ matched → found ≡ matched
+joined found a b held matched e same is = e ∙ ap (λ (t : Bool). t && held) same ∙ is
 
 -- ---- blocks of the cache list lie on the disk
 

@@ -91,13 +91,7 @@ fn better(p: Sequence, other: Option<Sequence>) -> Option<Sequence>
 {
     match other {
         None => Some(p),
-        Some(q) => {
-            if comes_before(p, q) {
-                Some(p)
-            } else {
-                Some(q)
-            }
-        }
+        Some(q) => { if comes_before(p, q) { Some(p) } else { Some(q) } }
     }
 }
 

@@ -9,13 +9,13 @@ use Rattle.sequence_rule.proofs.choosing.picks.Goals as goal
 pub returns-in-None : goal.returns-in-None
 returns-in-None c =
     let none : long_enough c.args.threshold (best_along c.loop-turn.left.items) ≡ None =
-        ap (λ (rows : List PlaceMatches). long_enough c.args.threshold (best_along rows)) (sym c.as_slice.ensures.value) ∙ sym c.best.ensures ∙ c.in-None.is in
+    ap (λ (rows : List PlaceMatches). long_enough c.args.threshold (best_along rows)) (sym c.as_slice.ensures.value) ∙ sym c.best.ensures ∙ c.in-None.is in
     ended c.args.threshold (length c.args.rows.items) c.loop-turn._turn (omega arith) c.loop-turn.left.items c.loop-turn.picked.items _ none c.loop-turn.invariant.told
 
 pub loop-turn-preserved : goal.loop-turn-preserved
 loop-turn-preserved c =
     let some : long_enough c.args.threshold (best_along c.loop-turn.left.items) ≡ Some c.in-Some.sequence =
-        ap (λ (rows : List PlaceMatches). long_enough c.args.threshold (best_along rows)) (sym c.as_slice.ensures.value) ∙ sym c.best.ensures ∙ c.in-Some.is in
+    ap (λ (rows : List PlaceMatches). long_enough c.args.threshold (best_along rows)) (sym c.as_slice.ensures.value) ∙ sym c.best.ensures ∙ c.in-Some.is in
     let next = next_turn c.args.threshold (length c.args.rows.items) c.loop-turn._turn (omega arith) c.loop-turn.left.items c.loop-turn.picked.items c.in-Some.sequence some in
     let pushed : c.push.new.self.items ≡ c.loop-turn.picked.items ++ c.in-Some.sequence ∷ [] = c.in_ok-push-in-Some.ensures.items in
     let left : rows_without c.in-Some.sequence c.loop-turn.left.items ≡ c.remove_covered.new.rows.items = sym c.remove_covered.ensures in

@@ -1,4 +1,4 @@
-use Rattle.std.proofs.Common.{◌≡◌, ◌≤◌, ◌+◌, ◌<◌, ◌∷◌, ◌∙◌, ℕ, Bool, List, IsTrue, true, false, sym, subst, ap, arith, drop, length, slice_index_or}
+use Rattle.std.proofs.Common.{◌≡◌, ◌≤◌, ◌+◌, ◌<◌, ◌∷◌, ◌∙◌, ℕ, List, IsTrue, true, sym, subst, arith, drop, length, slice_index_or}
 use Rattle.std.specs.Prelude.{◌&&◌, ◌||◌}
 use Rattle.disk_model.specs.Disk.{State}
 use Rattle.disk_model.specs.Media.{Fixed}

@@ -1,10 +1,9 @@
-use Rattle.std.proofs.Common.{◌≡◌, ◌∙◌, ℕ, Bool, List, refl, true, sym, ap}
-use Rattle.std.specs.Prelude.{◌&&◌}
+use Rattle.std.proofs.Common.{◌≡◌, ◌∙◌, ℕ, List, refl, sym, ap}
 use Rattle.sha2.specs.Sha256.{sha256}
 use Rattle.place_words.specs.Different.{is_among}
 use Rattle.volume_model.specs.Cache.{cached_blocks, kin}
-use Rattle.sequence_rule.specs.Matches.{holds}
-use Rattle.sequence_rule.proofs.Bytes.{kin_cached, kin_matches, lies_below}
+use Rattle.sequence_rule.specs.Matches.{holds, block_matches}
+use Rattle.sequence_rule.proofs.Bytes.{kin_cached, kin_matches, joined, lies_below}
 use Rattle.sequence_rule.proofs.matching.match_block.Goals as goal
 
 pub holding-requires-clause-within : goal.holding-requires-clause-within
@@ -12,7 +11,7 @@ holding-requires-clause-within g c at e =
     let list = g.K.ContentCache.list c.args.cache.now in
     let print = sha256 c.args.block.now.bytes in
     let same : is_among c.as_slice.result.now at ≡ is_among (cached_blocks (kin list print)) at =
-        ap (λ (ns : List ℕ). is_among ns at) c.as_slice.ensures.is ∙ c.kin.ensures.kin.same at ∙ ap (λ (f : List ℕ). is_among (cached_blocks (kin list f)) at) c.fingerprint.ensures in
+    ap (λ (ns : List ℕ). is_among ns at) c.as_slice.ensures.is ∙ c.kin.ensures.kin.same at ∙ ap (λ (f : List ℕ). is_among (cached_blocks (kin list f)) at) c.fingerprint.ensures in
     lies_below _ list c.requires.blocks at (kin_cached print list at (sym same ∙ e))
 
 pub returns-clause-row : goal.returns-clause-row
@@ -21,14 +20,13 @@ returns-clause-row g c =
     let print = sha256 c.args.block.now.bytes in
     let contents = (g.D.Disk.state c.args.disk.now).contents in
     let same = λ (at : ℕ).
-    (let one = ap (λ (ns : List ℕ). is_among ns at) c.as_slice.ensures.is in
-    let two = c.kin.ensures.kin.same at in
-    let three = ap (λ (f : List ℕ). is_among (cached_blocks (kin list f)) at) c.fingerprint.ensures in
+    (let one : is_among c.as_slice.result.now at ≡ is_among c.kin.new.out at = ap (λ (ns : List ℕ). is_among ns at) c.as_slice.ensures.is in
+    let two : is_among c.kin.new.out at ≡ is_among (cached_blocks (kin list c.fingerprint.result)) at = c.kin.ensures.kin.same at in
+    let three : is_among (cached_blocks (kin list c.fingerprint.result)) at ≡ is_among (cached_blocks (kin list print)) at = ap (λ (f : List ℕ). is_among (cached_blocks (kin list f)) at) c.fingerprint.ensures in
     one ∙ two ∙ three) in
     record {
       place = refl;
       cached = λ at e. kin_cached print list at (sym (same at) ∙ c.in_ok-blocks.ensures.kin at e);
-      matches = λ tells at.
-          (let before = c.in_ok-blocks.ensures.holding tells at in
-          before ∙ ap (λ (b : Bool). b && holds contents at c.args.block.now) (same at) ∙ kin_matches contents list c.args.block.now at (c.requires.fingerprints tells));
+      matches = λ tells at. joined (is_among c.in_ok-blocks.blocks at) (is_among c.as_slice.result.now at) (is_among (cached_blocks (kin list print)) at) (holds contents at c.args.block.now)
+          (block_matches list contents c.args.block.now at) (c.in_ok-blocks.ensures.holding tells at) (same at) (kin_matches contents list c.args.block.now at (c.requires.fingerprints tells));
     }
