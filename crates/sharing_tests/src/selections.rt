@@ -1,16 +1,15 @@
 //! Which sequences are shared, over a disk in memory.
 ghost use Rattle.std.specs.Prelude.{◌≡◌, IsTrue};
-ghost use Rattle.disk_model.specs.Disk.{State};
 ghost use Rattle.sequence_rule.specs.Matches.{LieBelow, HaveFingerprints};
 
-use crate::stored::{one_run, store_all};
+use crate::stored::{one_run, store_all, two_runs};
 use content_model::{ContentCache, PlainCache};
 use disk_model::Disk;
 use mem_disk::MemDisk;
 use sequence_rule::{FindFault, Sequence, SequenceList, plain_select};
-use std::alloc::Global;
+use std::alloc::{AllocError, Global};
 use std::test::Fail;
-use vol_numbers::{BlockNo, Fbn};
+use vol_numbers::{BlockNo, CallList, Fbn};
 
 /// What is shared of dirty blocks from place 0 on, told by their letters, after blocks were stored and used in this order.
 struct Row {
@@ -169,6 +168,9 @@ const ROWS: &[Row] = &[
     },
 ];
 
+/// Four dirty blocks have one candidate each: which read fails, and whether the selection is made. A fifth read is never made.
+const FAILING: &[(u64, bool)] = &[(0, false), (1, false), (2, false), (3, false), (4, true)];
+
 fn are_these(list: &[Sequence], want: &[(Fbn, u32, BlockNo)]) -> bool {
     for (sequence, row) in list.iter().zip(want.iter()) {
         if sequence.first != row.0 || sequence.length != row.1 || sequence.block != row.2 {
@@ -225,5 +227,106 @@ fn all_hold(alloc: Global, rows: &[Row]) -> Result<bool, Fail> {
 #[test]
 fn the_sequences_of_the_rule_are_selected(rt: HostRuntime) -> Result<(), Fail> {
     assert!(rt; all_hold(rt.alloc(), ROWS)?);
+    Ok(())
+}
+
+/// A plan by which one call fails.
+fn plan_of(alloc: Global, call: u64) -> Result<CallList, AllocError> {
+    let mut calls = Vec::new(alloc);
+    calls.push(call)?;
+    Ok(CallList::from_vec(calls))
+}
+
+/// Whether the selection is made, or the disk's fault is answered.
+fn is_made(selected: Result<SequenceList, FindFault>) -> Option<bool> {
+    match selected {
+        Ok(list) => are_these(list.as_slice(), &[(0, 4, 105)]).then_some(true),
+        Err(FindFault::Device) => Some(false),
+        Err(FindFault::OutOfMemory) => None,
+    }
+}
+
+/// Selects among four blocks while a call fails.
+fn select_failing<K: ContentCache>(
+    alloc: Global,
+    disk: &mut MemDisk,
+    cache: &K,
+    call: u64,
+) -> Result<Option<bool>, Fail>
+    requires blocks { LieBelow (⟦<MemDisk as Disk>⟧.fixed disk.old).size (K.list cache.now) }
+    requires fingerprints { HaveFingerprints (⟦<MemDisk as Disk>⟧.state disk.old).contents (K.list cache.now) }
+{
+    disk.plan(plan_of(alloc, call)?, None, 0);
+    let dirty = one_run(alloc, b"ABCD")?;
+    Ok(is_made(plain_select(alloc, &dirty, cache, disk, 4)))
+}
+
+fn is_failing_as(alloc: Global, disk: &mut MemDisk, row: &(u64, bool)) -> Result<bool, Fail> {
+    let mut cache = PlainCache::with_capacity(alloc, 64)?;
+    match store_all(disk, &mut cache, EIGHT) {
+        Ok(()) => Ok(select_failing(alloc, disk, &cache, row.0)? == Some(row.1)),
+        Err(_) => Ok(false),
+    }
+}
+
+fn all_fail(alloc: Global, rows: &[(u64, bool)]) -> Result<bool, Fail> {
+    for row in rows {
+        let mut disk = MemDisk::new(alloc, 128)?;
+        if !is_failing_as(alloc, &mut disk, row)? {
+            return Ok(false);
+        }
+    }
+    Ok(true)
+}
+
+#[test]
+fn each_candidate_is_read_once_and_its_fault_answered(rt: HostRuntime) -> Result<(), Fail> {
+    assert!(rt; all_fail(rt.alloc(), FAILING)?);
+    Ok(())
+}
+
+/// Selects among `AB` from place 0 and `CD` from place 3 on.
+fn select_apart<K: ContentCache>(
+    alloc: Global,
+    disk: &mut MemDisk,
+    cache: &K,
+    threshold: u32,
+    shared: &[(Fbn, u32, BlockNo)],
+) -> Result<bool, Fail>
+    requires blocks { LieBelow (⟦<MemDisk as Disk>⟧.fixed disk.old).size (K.list cache.now) }
+    requires fingerprints { HaveFingerprints (⟦<MemDisk as Disk>⟧.state disk.old).contents (K.list cache.now) }
+{
+    let dirty = two_runs(alloc, b"AB", b"CD")?;
+    let selected = plain_select(alloc, &dirty, cache, disk, threshold);
+    Ok(is_selected(selected, shared))
+}
+
+fn is_apart(alloc: Global, threshold: u32, shared: &[(Fbn, u32, BlockNo)]) -> Result<bool, Fail> {
+    let mut disk = MemDisk::new(alloc, 128)?;
+    is_apart_on(alloc, &mut disk, threshold, shared)
+}
+
+fn is_apart_on(
+    alloc: Global,
+    disk: &mut MemDisk,
+    threshold: u32,
+    shared: &[(Fbn, u32, BlockNo)],
+) -> Result<bool, Fail> {
+    let mut cache = PlainCache::with_capacity(alloc, 64)?;
+    match store_all(disk, &mut cache, EIGHT) {
+        Ok(()) => select_apart(alloc, disk, &cache, threshold, shared),
+        Err(_) => Ok(false),
+    }
+}
+
+#[test]
+fn no_sequence_goes_over_a_gap(rt: HostRuntime) -> Result<(), Fail> {
+    assert!(rt; is_apart(rt.alloc(), 2, &[(0, 2, 105), (3, 2, 107)])?);
+    Ok(())
+}
+
+#[test]
+fn runs_are_not_joined_over_a_gap(rt: HostRuntime) -> Result<(), Fail> {
+    assert!(rt; is_apart(rt.alloc(), 3, &[])?);
     Ok(())
 }

@@ -88,3 +88,25 @@ pub(crate) fn one_run(alloc: Global, letters: &[u8]) -> Result<DirtyRuns, AllocE
         runs: runs_of(alloc, run)?,
     })
 }
+
+fn both_runs(alloc: Global, first: DirtyRun, second: DirtyRun) -> Result<DirtyRunList, AllocError>
+    ensures { IfOk result (λ runs. runs ≡ first ∷ second ∷ []) }
+{
+    let mut runs = Vec::new(alloc);
+    runs.push(first)?;
+    runs.push(second)?;
+    Ok(DirtyRunList::from_vec(runs))
+}
+
+/// Two runs of letters, the second from the place behind the gap after the first.
+pub(crate) fn two_runs(alloc: Global, first: &[u8], second: &[u8]) -> Result<DirtyRuns, AllocError>
+    requires first { 0 < length first.now }
+    requires second { 0 < length second.now }
+    requires few { length first.now + length second.now ≤ 1000 }
+{
+    let run = run_of(alloc, 0, first)?;
+    let next = run_of(alloc, first.len() as u32 + 1, second)?;
+    Ok(DirtyRuns {
+        runs: both_runs(alloc, run, next)?,
+    })
+}

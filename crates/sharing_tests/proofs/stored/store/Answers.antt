@@ -1,7 +1,6 @@
-use Rattle.std.proofs.Common.{◌≡◌, ◌∙◌, ℕ, List, sym, ap, subst}
+use Rattle.std.proofs.Common.{◌∙◌, ℕ, List, sym, ap, subst}
 use Rattle.std.specs.Prelude.{slice_set}
 use Rattle.disk_model.specs.Disk.{State}
-use Rattle.vol_numbers.specs.declared.block.Block.{Block}
 use Rattle.volume_model.specs.Cache.{CacheList, use_block}
 use Rattle.sequence_rule.specs.Matches.{LieBelow, HaveFingerprints}
 use Rattle.sharing_tests.proofs.Storing.{used_below, used_fingerprints}
