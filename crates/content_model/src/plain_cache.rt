@@ -114,6 +114,18 @@ fn put_in_front(pairs: &mut Vec<Pair>, capacity: u32, pair: Pair)
     }
 }
 
+/// Uses a pair by the rule of the list.
+#[tactic(auto, using(crate::proofs::Using::taken_is))]
+fn use_pair(pairs: &mut Vec<Pair>, capacity: u32, pair: Pair)
+    requires { capacity ≤ vec_capacity pairs.old }
+    ensures pairs { pairs.new.items ≡ use_block capacity pairs.old.items pair.0 pair.1 }
+    ensures capacity { vec_capacity pairs.old ≤ vec_capacity pairs.new }
+{
+    without_block(pairs, pair.block);
+    make_room_for_kin(pairs, &pair.fp);
+    put_in_front(pairs, capacity, pair);
+}
+
 impl ContentCache for PlainCache {
     ghost use Rattle.std.specs.Prelude.{refl};
     ghost use Rattle.volume_model.specs.Cache.{CacheList};
@@ -136,9 +148,7 @@ impl ContentCache for PlainCache {
 
     fn use_block(&mut self, fp: &Fingerprint, at: BlockNo) {
         let PlainCache { pairs, capacity } = self;
-        without_block(pairs, at);
-        make_room_for_kin(pairs, fp);
-        put_in_front(pairs, *capacity, Pair { fp: *fp, block: at });
+        use_pair(pairs, *capacity, Pair { fp: *fp, block: at });
     }
 
     fn forget(&mut self, at: BlockNo) {

@@ -24,8 +24,8 @@ pointwise_same (x ∷ xs) (y ∷ ys) = by (nat_eq x y) (pointwise_same xs ys)
     by false more = refl
 
 -- a block that was read tells what is held
-pub read_holds : (contents : List Block) (at : ℕ) (block held : Block) → slice_get contents at ≡ Some held → pointwise nat_eq block.bytes held.bytes ≡ holds contents at block
-read_holds contents at block held read = pointwise_same block.bytes held.bytes ∙ ap (λ (o : Option Block). unwrap_or (option_map (λ (b : Block). same_bytes block.bytes b.bytes) o) false) (sym read)
+pub read_holds : (contents : List Block) (at : ℕ) (block held : Block) → slice_get contents at ≡ Some held → same_bytes block.bytes held.bytes ≡ holds contents at block
+read_holds contents at block held read = ap (λ (o : Option Block). unwrap_or (option_map (λ (b : Block). same_bytes block.bytes b.bytes) o) false) (sym read)
 
 -- ---- a block that holds the same bytes has the same fingerprint
 

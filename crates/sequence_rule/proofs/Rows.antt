@@ -45,6 +45,21 @@ row_stays tells cache old new e r same row = record {
   matches = λ told at. row.matches told at ∙ ap (λ (contents : List Block). block_matches cache contents e.1 at) (same told);
 }
 
+-- the rows of a run with those of one block more, which was read off a slice that is the run's
+pub run_more : (tells : Bool) (cache : CacheList) (contents : List Block) (dirty : List DirtyBlock) (place : ℕ) (slice blocks : List Block) (n : ℕ) (d : Block) (rows new : List PlaceMatches) (row : PlaceMatches)
+    → slice ≡ blocks → n < length slice → new ≡ rows ++ row ∷ []
+    → IsRowOf tells cache contents (place + n, slice_index_or slice n d) row
+    → AreRowsOf tells cache contents (dirty ++ blocks_from place (take n blocks)) rows
+    → AreRowsOf tells cache contents (dirty ++ blocks_from place (take (n + 1) blocks)) new
+run_more tells cache contents dirty place slice blocks n d rows new row same less pushed own are =
+    let before : List DirtyBlock = blocks_from place (take n blocks) in
+    let next : DirtyBlock = (place + n, slice_index_or slice n d) in
+    let more : blocks_from place (take (n + 1) blocks) ≡ before ++ next ∷ [] =
+    ap (λ (bs : List Block). blocks_from place (take (n + 1) bs)) (sym same) ∙ blocks_more place slice n d less ∙ ap (λ (bs : List Block). blocks_from place (take n bs) ++ next ∷ []) same in
+    let both = zip_more (IsRowOf tells cache contents) (dirty ++ before) rows next row are own in
+    subst (λ (es : List DirtyBlock). AreRowsOf tells cache contents es new) (append_assoc dirty before (next ∷ []) ∙ ap (λ (es : List DirtyBlock). dirty ++ es) (sym more))
+    (subst (λ (rs : List PlaceMatches). AreRowsOf tells cache contents ((dirty ++ before) ++ next ∷ []) rs) (sym pushed) both)
+
 pub rows_stay : (tells : Bool) (cache : CacheList) (old new : List Block) (es : List DirtyBlock) (rs : List PlaceMatches) → (IsTrue tells → old ≡ new) → AreRowsOf tells cache old es rs → AreRowsOf tells cache new es rs
 rows_stay tells cache old new [] [] same all = tt
 rows_stay tells cache old new [] (r ∷ rs) same all = absurd all

@@ -3,7 +3,9 @@ ghost use Rattle.std.specs.Prelude.{◌≡◌, ◌≤◌, ◌<◌, ◌&&◌, ◌
 ghost use Rattle.vol_numbers.specs.Cause.{HasCause};
 ghost use Rattle.disk_model.specs.Past.{Adds};
 ghost use Rattle.place_words.specs.Different.{is_among};
-ghost use Rattle.volume_model.specs.Cache.{is_cached};
+ghost use Rattle.sha2.specs.Sha256.{sha256};
+ghost use Rattle.volume_model.specs.Cache.{cached_blocks, kin};
+ghost use Rattle.volume_model.specs.Sharing.{same_bytes};
 ghost use Rattle.sequence_rule.specs.Causes.{HasFindCause};
 ghost use Rattle.sequence_rule.specs.Matched.{IsRowOf, AreRowsOf};
 ghost use Rattle.sequence_rule.specs.Matches.{holds, HaveFingerprints, LieBelow};
@@ -95,10 +97,18 @@ fn match_block<D: Disk, K: ContentCache, L: Ledger>(
     ensures given { (D.given disk.old).count ≤ (D.given disk.new).count }
     ensures cause { HasCause (D.faults disk.old) (D.faults disk.new) result }
 {
-    let mut kin = KinList::new();
-    cache.kin(&fingerprint(block), &mut kin, steps);
+    let kin = candidates(block, cache, steps);
     let blocks = holding(disk, kin.as_slice(), block)?;
     Ok(PlaceMatches { place, blocks })
+}
+
+/// The cached blocks of the fingerprint of a block.
+fn candidates<K: ContentCache, L: Ledger>(block: &Block, cache: &K, steps: &mut Steps<L>) -> KinList
+    ensures { (at : ℕ) → is_among result at ≡ is_among (cached_blocks (kin (K.list cache.now) (sha256 block.now.bytes))) at }
+{
+    let mut kin = KinList::new();
+    cache.kin(&fingerprint(block), &mut kin, steps);
+    kin
 }
 
 /// Those of these disk blocks that hold the same bytes.
@@ -134,5 +144,12 @@ fn holds<D: Disk>(disk: &mut D, at: BlockNo, block: &Block) -> Result<bool, Disk
 {
     let mut held = Block::zero();
     disk.read_block(at, &mut held)?;
-    Ok(block.bytes == held.bytes)
+    Ok(is_same(block, &held))
+}
+
+#[tactic(auto, using(crate::proofs::Bytes::pointwise_same))]
+fn is_same(block: &Block, held: &Block) -> bool
+    ensures { result ≡ same_bytes block.now.bytes held.now.bytes }
+{
+    block.bytes == held.bytes
 }

@@ -11,7 +11,7 @@ holding-requires-clause-within g c at e =
     let list = g.K.ContentCache.list c.args.cache.now in
     let print = sha256 c.args.block.now.bytes in
     let same : is_among c.as_slice.result.now at ≡ is_among (cached_blocks (kin list print)) at =
-    ap (λ (ns : List ℕ). is_among ns at) c.as_slice.ensures.is ∙ c.kin.ensures.kin.same at ∙ ap (λ (f : List ℕ). is_among (cached_blocks (kin list f)) at) c.fingerprint.ensures in
+    ap (λ (ns : List ℕ). is_among ns at) c.as_slice.ensures.is ∙ c.candidates-kin.ensures at in
     lies_below _ list c.requires.blocks at (kin_cached print list at (sym same ∙ e))
 
 pub returns-clause-row : goal.returns-clause-row
@@ -19,11 +19,8 @@ returns-clause-row g c =
     let list = g.K.ContentCache.list c.args.cache.now in
     let print = sha256 c.args.block.now.bytes in
     let contents = (g.D.Disk.state c.args.disk.now).contents in
-    let same = λ (at : ℕ).
-    (let one : is_among c.as_slice.result.now at ≡ is_among c.kin.new.out at = ap (λ (ns : List ℕ). is_among ns at) c.as_slice.ensures.is in
-    let two : is_among c.kin.new.out at ≡ is_among (cached_blocks (kin list c.fingerprint.result)) at = c.kin.ensures.kin.same at in
-    let three : is_among (cached_blocks (kin list c.fingerprint.result)) at ≡ is_among (cached_blocks (kin list print)) at = ap (λ (f : List ℕ). is_among (cached_blocks (kin list f)) at) c.fingerprint.ensures in
-    one ∙ two ∙ three) in
+    let same : (at : ℕ) → is_among c.as_slice.result.now at ≡ is_among (cached_blocks (kin list print)) at =
+    λ at. ap (λ (ns : List ℕ). is_among ns at) c.as_slice.ensures.is ∙ c.candidates-kin.ensures at in
     record {
       place = refl;
       cached = λ at e. kin_cached print list at (sym (same at) ∙ c.in_ok-blocks.ensures.kin at e);
