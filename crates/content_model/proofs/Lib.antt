@@ -1,0 +1,5 @@
+pub mod Collecting
+pub mod Kept
+pub mod Kin
+pub mod Order
+pub mod Using

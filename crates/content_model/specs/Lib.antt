@@ -1,0 +1,3 @@
+pub mod Kin
+pub mod Order
+pub mod Stored

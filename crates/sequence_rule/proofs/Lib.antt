@@ -1,0 +1,7 @@
+pub mod Bytes
+pub mod Holding
+pub mod InPlace
+pub mod Rows
+pub mod Selected
+pub mod Selecting
+pub mod Turns

@@ -1,0 +1,43 @@
+use Rattle.std.proofs.Common.{◌≡◌, ◌∙◌, ◌+◌, ◌≤◌, ◌<◌, ◌++◌, List, IsTrue, sym, ap, subst, arith, take, length, slice_index_or}
+use Rattle.disk_model.specs.Disk.{State}
+use Rattle.disk_model.proofs.Moments.{adds_read}
+use Rattle.sequence_rule.specs.Matched.{AreRowsOf}
+use Rattle.sequence_rule.specs.Runs.{DirtyBlock, blocks_from, dirty_blocks}
+use Rattle.sequence_rule.specs.declared.dirty.DirtyRun.{DirtyRun}
+use Rattle.sequence_rule.proofs.Rows.{runs_more, rows_stay, run_below}
+use Rattle.sequence_rule.proofs.matching.match_all.Goals as goal
+
+pub match_run-requires-clause-places : goal.match_run-requires-clause-places
+match_run-requires-clause-places g c =
+    let runs = c.args.dirty.now.runs in
+    let same : c.as_slice-run-items.result.now ≡ runs = c.as_slice-run-items.ensures in
+    let less = subst (λ (rs : List DirtyRun). c.loop-run.run-index < length rs) same c.loop-run-test.true in
+    let read = subst (λ (rs : List DirtyRun). c.run-item.result ≡ slice_index_or rs c.loop-run.run-index c.run-item.result) same c.run-item.is in
+    subst (λ (r : DirtyRun). r.first + length r.blocks ≤ 1048576) (sym read) (run_below 0 runs c.loop-run.run-index c.run-item.result c.args.dirty.now.in_order less)
+
+pub loop-run-preserved : goal.loop-run-preserved
+loop-run-preserved g c =
+    let inv = c.loop-run.invariant in
+    let tells = g.D.Disk.tells in
+    let list = g.K.ContentCache.list c.args.cache.now in
+    let now = (g.D.Disk.state c.loop-run.disk).contents in
+    let contents = (g.D.Disk.state c.args.disk.now).contents in
+    let runs = c.args.dirty.now.runs in
+    let i = c.loop-run.run-index in
+    let run = c.run-item.result in
+    let same : c.as_slice-run-items.result.now ≡ runs = c.as_slice-run-items.ensures in
+    let less = subst (λ (rs : List DirtyRun). i < length rs) same c.loop-run-test.true in
+    let read = subst (λ (rs : List DirtyRun). run ≡ slice_index_or rs i run) same c.run-item.is in
+    let stays = λ (told : IsTrue tells). ap (λ (s : State). s.contents) (inv.same told) in
+    let before = rows_stay tells list contents now (dirty_blocks (take i runs)) c.loop-run.rows.items (λ told. sym (stays told)) inv.rows in
+    let after = rows_stay tells list now contents (dirty_blocks (take i runs) ++ blocks_from run.first run.blocks) c.match_run.new.rows.items stays (c.in_ok-match_run.ensures.rows (dirty_blocks (take i runs)) before) in
+    let more : dirty_blocks (take (i + 1) runs) ≡ dirty_blocks (take i runs) ++ blocks_from run.first run.blocks =
+    runs_more runs i run less ∙ ap (λ (r : DirtyRun). dirty_blocks (take i runs) ++ blocks_from r.first r.blocks) (sym read) in
+    record {
+      rows = subst (λ (es : List DirtyBlock). AreRowsOf tells list contents es c.match_run.new.rows.items) (sym more) after;
+      same = λ told. c.in_ok-match_run.ensures.same told ∙ inv.same told;
+      moments = λ told. adds_read (inv.moments told) (inv.same told) (c.in_ok-match_run.ensures.moments told);
+      fixed = c.in_ok-match_run.ensures.fixed ∙ inv.fixed;
+      given = omega (arith, c.in_ok-match_run.ensures.given, inv.given);
+      faults = c.in_ok-match_run.ensures.cause ∙ inv.faults;
+    }

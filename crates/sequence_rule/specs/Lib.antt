@@ -1,0 +1,5 @@
+pub mod Causes
+pub mod Choosing
+pub mod Matched
+pub mod Matches
+pub mod Runs
