@@ -136,3 +136,7 @@ among_either b added pages blocks le is = by_test (is_among pages b) (is_among b
     by_test true t p q = inl refl
     by_test false true p q = inr refl
     by_test false false p q = absurd (let some = among_times b added is in omega (arith, le, some, times_none b pages p, times_none b blocks q))
+
+-- by the blocks of other changes that are the same
+pub uses_like : {xs : List Change} (ys : List Change) {m n : Noted} → ((b : ℕ) → times b (change_blocks xs) ≡ times b (change_blocks ys)) → Uses xs m n → Uses ys m n
+uses_like ys same uses = record { each = λ b. omega (arith, uses.each b, same b) }

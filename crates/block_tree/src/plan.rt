@@ -1,5 +1,6 @@
 //! Plans how a tree is rewritten.
 ghost use Rattle.std.specs.Prelude.{◌≡◌, ◌<◌, ◌≤◌, ◌+◌, ◌++◌, ◌^◌, ◌⊎◌, true, false, ℕ, All, length, map, IfOk, OnErr, IsTrue};
+ghost use Rattle.std.specs.List.Sorted.{IsPermutation};
 ghost use Rattle.vol_numbers.specs.Geometry.{layout_of};
 ghost use Rattle.vol_numbers.specs.declared.runs.Change.{Change as ChangeOf};
 ghost use Rattle.disk_model.specs.Past.{Adds};
@@ -12,7 +13,7 @@ ghost use Rattle.block_tree.specs.Root.{block_at, leaf_at, tree_pairs, tree_inde
 ghost use Rattle.block_tree.specs.Notes.{Stand, Uses, no_notes, notes_in, page_blocks, change_blocks};
 ghost use Rattle.block_tree.specs.Opened.{FitsHeight, ChangesFit, IsTreeRewritten};
 ghost use Rattle.block_tree.specs.Pages.{IsIndexPage, LeadInto};
-ghost use Rattle.block_tree.specs.Edit.{cut_at, changed_at, leaves_of, AreInOrder, KeepsLeaf};
+ghost use Rattle.block_tree.specs.Edit.{cut_at, changed_at, leaves_of, portion, AreInOrder, KeepsLeaf};
 ghost use Rattle.block_tree.specs.Causes.{HasTreeCause, IsTreeDamage};
 
 use crate::edit::Edit;
@@ -23,8 +24,8 @@ use crate::{TreeFault, TreeRoot};
 use block_format::{blocks_of, height_of, heights_are_least};
 use disk_model::Disk;
 use run_allocator::FreeMap;
-use std::alloc::Global;
-use vol_numbers::{ChangeList, Fbn, Geometry, PageList, PointerList};
+use std::alloc::{AllocError, Global};
+use vol_numbers::{Change, ChangeList, Fbn, Geometry, PageList, PointerList};
 
 /// A tree that is to be written: its root, the index blocks that are written afresh, and the pointers that come and go.
 #[derive(Drop)]
@@ -94,37 +95,41 @@ pub fn rewrite<D: Disk>(
     ensures fixed { D.fixed disk.new ≡ D.fixed disk.old }
     ensures cause { HasTreeCause (D.faults disk.old) (D.faults disk.new) result }
 {
-    let sorted = by_leaf(alloc, changes)?;
-    let edit = Edit {
+    let made = plan_changes(
+        alloc,
+        disk,
+        g,
+        root,
         cut_to,
-        changes: sorted.as_slice(),
-        height: height_for(size),
-    };
-    let made = rewrite_in_order(alloc, disk, g, root, &edit, free)?;
+        changes,
+        height_for(size),
+        free,
+    )?;
     Ok(made)
 }
 
-/// The same by changes in the order of their leaves.
-fn rewrite_in_order<D: Disk>(
+/// The same for a tree of a height, by the records of what was noted.
+fn plan_changes<D: Disk>(
     alloc: Global,
     disk: &mut D,
     g: &Geometry,
     root: &TreeRoot,
-    edit: &Edit<'_>,
+    cut_to: Fbn,
+    changes: &ChangeList,
+    height: u32,
     free: &mut FreeMap,
 ) -> Result<Rewritten, TreeFault>
     requires size { (layout_of g.now).blocks ≡ (D.fixed disk.old).size }
     requires root { IsRoot (layout_of g.now) root.now }
-    requires height { edit.now.height ≤ 2 }
-    requires changes { ChangesFit edit.now.height edit.now.changes.now }
-    requires order { AreInOrder edit.now.changes.now }
-    requires fits { IsTrue D.tells → FitsHeight (blocks_in (D.state disk.old).contents) root.now edit.now.cut_to edit.now.height }
-    requires free { different (leaves_of edit.now.changes.now) + 3 ≤ length free.old }
-    ensures rewritten { IfOk result (λ w. IsTrue D.tells → IsTreeRewritten (blocks_in (D.state disk.old).contents) root.now edit.now.changes.now edit.now.cut_to w.root (no_notes free.old) (notes_in w free.new)) }
-    ensures height { IfOk result (λ w. w.root.height ≡ edit.now.height) }
+    requires height { height ≤ 2 }
+    requires changes { ChangesFit height changes.now }
+    requires fits { IsTrue D.tells → FitsHeight (blocks_in (D.state disk.old).contents) root.now cut_to height }
+    requires free { different (leaves_of changes.now) + 3 ≤ length free.old }
+    ensures rewritten { IfOk result (λ w. IsTrue D.tells → IsTreeRewritten (blocks_in (D.state disk.old).contents) root.now changes.now cut_to w.root (no_notes free.old) (notes_in w free.new)) }
+    ensures height { IfOk result (λ w. w.root.height ≡ height) }
     ensures taken { IfOk result (λ w. page_blocks w.pages ++ free.new ≡ free.old) }
-    ensures used { IfOk result (λ w. Uses edit.now.changes.now (no_notes free.old) (notes_in w free.new)) }
-    ensures sound { IfOk result (λ w. LeadInto (layout_of g.now) edit.now.changes.now → All (IsPointer (layout_of g.now)) free.old → All (IsIndexPage (layout_of g.now)) w.pages × IsPointer (layout_of g.now) w.root.ptr) }
+    ensures used { IfOk result (λ w. Uses changes.now (no_notes free.old) (notes_in w free.new)) }
+    ensures sound { IfOk result (λ w. LeadInto (layout_of g.now) changes.now → All (IsPointer (layout_of g.now)) free.old → All (IsIndexPage (layout_of g.now)) w.pages × IsPointer (layout_of g.now) w.root.ptr) }
     ensures unchanged { OnErr result (free.new ≡ free.old) }
     ensures damaged { IsTreeDamage (layout_of g.now) D.tells (blocks_in (D.state disk.new).contents) (D.given disk.old) (D.given disk.new) result }
     ensures same { IsTrue D.tells → D.state disk.new ≡ D.state disk.old }
@@ -132,9 +137,30 @@ fn rewrite_in_order<D: Disk>(
     ensures fixed { D.fixed disk.new ≡ D.fixed disk.old }
     ensures cause { HasTreeCause (D.faults disk.old) (D.faults disk.new) result }
 {
-    let mut notes = Notes::new(alloc, free.copy()?);
-    let new = rewrite_tree(disk, g, root, edit, &mut notes)?;
+    let (sorted, mut notes) = begin(alloc, changes, free)?;
+    let edit = Edit {
+        cut_to,
+        changes: sorted.as_slice(),
+        height,
+    };
+    let new = rewrite_tree(disk, g, root, &edit, &mut notes)?;
     Ok(notes.into_rewritten(new, free))
+}
+
+/// The changes in the order of their leaves, and notes that have the free blocks.
+fn begin(
+    alloc: Global,
+    changes: &ChangeList,
+    free: &FreeMap,
+) -> Result<(Vec<Change>, Notes), AllocError>
+    ensures order { IfOk result (λ b. AreInOrder b.0.items) }
+    ensures permutation { IfOk result (λ b. IsPermutation changes.now b.0.items) }
+    ensures portions { IfOk result (λ b. (k : ℕ) → portion k b.0.items ≡ portion k changes.now) }
+    ensures begun { IfOk result (λ b. b.1 ≡ no_notes free.now) }
+{
+    let sorted = by_leaf(alloc, changes)?;
+    let notes = Notes::new(alloc, free.copy()?);
+    Ok((sorted, notes))
 }
 
 /// The height of a tree of so many bytes.
