@@ -1,6 +1,7 @@
 mod BitLaws
 mod BlockLaws
 mod CountingLaws
+mod DamageLaws
 mod LoadLaws
 pub mod SpellLaws
 mod PassingLaws

@@ -1,7 +1,8 @@
 -- What loading the inodes answers.
-use Rattle.std.specs.Prelude.{◌≡◌, ◌<◌, ◌≤◌, ◌⊎◌, ◌+◌, ◌-◌, ◌^◌, ℕ, Bool, true, IsTrue, min, List, All, Result, Ok, Err}
+use Rattle.std.specs.Prelude.{◌≡◌, ◌<◌, ◌≤◌, ◌⊎◌, ◌+◌, ◌-◌, ◌^◌, ℕ, Bool, true, IsTrue, min, List, All, take, Result, Ok, Err}
 use Rattle.vol_numbers.specs.Layout.{Layout}
 use Rattle.disk_model.specs.Disk.{Given}
+use Rattle.block_format.specs.Words.{words}
 use Rattle.block_format.specs.Index.{SpellsIndex, IsPointer}
 use Rattle.block_format.specs.Inode.{SpellsInode, inode_part, inode_shape, pointer_of}
 use Rattle.block_format.specs.declared.inode.Inode.{Inode}
@@ -27,16 +28,23 @@ pub record IsNoInodeBlock (g : Layout) (bytes : List ℕ) : Type 0 where
   pub below : position < 64
   pub outside : (inode : Inode) → SpellsInode g inode (inode_part position bytes) → ⊥
 
--- the block is the inode index, and its bytes are those of none
-abbrev pub IsNoIndexBlock : Layout → ℕ → ℕ → List ℕ → Type 0
-IsNoIndexBlock g index b bytes = (b ≡ index) × ((ptrs : List ℕ) → SpellsIndex g ptrs bytes → ⊥)
+-- The block is the inode index, and its bytes are outside the grammar: some pointer leads neither nowhere nor into the area.
+pub record IsNoIndex (g : Layout) (index b : ℕ) (bytes : List ℕ) : Type 0 where
+  pub is : b ≡ index
+  pub outside : (ptrs : List ℕ) → SpellsIndex g ptrs bytes → ⊥
+  pub pointer : All (IsPointer g) (take 1024 (words bytes)) → ⊥
 
--- The block that was read last in the call is this one. It is outside the grammar: it is the inode index, or one to which that points.
--- Where the disk tells its contents, they have the bytes that were read.
+-- The block is one to which the inode index points, and its bytes are outside the grammar.
+pub record IsNoBlockOf (g : Layout) (tells : Bool) (contents : Blocks) (index b : ℕ) (bytes : List ℕ) : Type 0 where
+  pub some : 0 < b
+  pub among : IsTrue tells → is_among (index_at contents index) b ≡ true
+  pub outside : IsNoInodeBlock g bytes
+
+-- The block that was read last in the call is this one, and is outside the grammar. Where the disk tells its contents, they have the bytes that were read.
 pub record IsDamage (g : Layout) (tells : Bool) (contents : Blocks) (index : ℕ) (old new : Given) (b : ℕ) : Type 0 where
   pub number : new.at ≡ b
   pub rose : min (old.count + 1) (2 ^ 64 - 1) ≤ new.count
-  pub outside : IsNoIndexBlock g index b new.block.bytes ⊎ ((IsTrue tells → is_among (index_at contents index) b ≡ true) × IsNoInodeBlock g new.block.bytes)
+  pub outside : IsNoIndex g index b new.block.bytes ⊎ IsNoBlockOf g tells contents index b new.block.bytes
   pub stands : IsTrue tells → contents b ≡ new.block.bytes
 
 -- what a fault tells of the block that was read last

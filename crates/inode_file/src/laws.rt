@@ -1,5 +1,5 @@
 //! Laws of inodes in blocks.
-ghost use Rattle.inode_file.specs.Laws.{NumberSpelled, OneTable, TableStays, TreeOfTable};
+ghost use Rattle.inode_file.specs.Laws.{NotDamaged, NumberSpelled, OneTable, TableStays, TreeOfTable};
 
 /// The inode of a number is the one at its position in its block.
 pub fn number_spelled()
@@ -19,4 +19,9 @@ pub fn table_stays()
 /// The pointers of a table are those of the tree of height 1 whose index is the inode index.
 pub fn tree_of_table()
     ensures { TreeOfTable }
+{}
+
+/// Where the blocks spell inodes within the rules, none of them is damaged.
+pub fn not_damaged()
+    ensures { NotDamaged }
 {}

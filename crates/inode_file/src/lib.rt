@@ -10,5 +10,5 @@ mod renewal;
 mod table;
 mod vacant;
 
-pub use laws::{number_spelled, one_table, table_stays, tree_of_table};
+pub use laws::{not_damaged, number_spelled, one_table, table_stays, tree_of_table};
 pub use table::InodeFile;

@@ -11,7 +11,7 @@ ghost use Rattle.inode_file.specs.Rewriting.{has_used};
 ghost use Rattle.inode_file.specs.Loading.{IsWhole, IsLoadDamage};
 
 use crate::inode_block::{inodes_in, no_inodes};
-use block_format::{Index, Inode, read_index};
+use block_format::{Index, Inode, counts_of_block, read_index};
 use block_tree::TreeFault;
 use disk_model::{Disk, DiskFault};
 use std::alloc::Global;
@@ -42,7 +42,11 @@ pub(crate) fn read_pointers<D: Disk>(
     }
     match read_index(&block, g) {
         Some(pointers) => Ok(pointers),
-        None => Err(TreeFault::Damaged(index)),
+        None => {
+            // Each block spells numbers, so that this one has a number that is no pointer.
+            counts_of_block(&block);
+            Err(TreeFault::Damaged(index))
+        }
     }
 }
 

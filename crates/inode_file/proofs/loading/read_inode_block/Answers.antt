@@ -34,7 +34,11 @@ returns-in-None-clause-damaged g c index among =
     record {
       number = given.number;
       rose = omega (arith, given.counted);
-      outside = inr (λ tells. ap (λ (s : State). is_among (index_at (blocks_in s.contents) index) c.args.at) (c.in_default.ensures.same tells) ∙ among tells, subst (λ (b : Block). IsNoInodeBlock (layout_of c.args.g.now) b.bytes) (sym given.bytes) c.in-None.ensures.none);
+      outside = inr (record {
+        some = let ne = c.if-at-eq0.false in omega (arith, ne);
+        among = λ tells. ap (λ (s : State). is_among (index_at (blocks_in s.contents) index) c.args.at) (c.in_default.ensures.same tells) ∙ among tells;
+        outside = subst (λ (b : Block). IsNoInodeBlock (layout_of c.args.g.now) b.bytes) (sym given.bytes) c.in-None.ensures.none;
+      });
       stands = λ tells.
           ap (λ (s : State). blocks_in s.contents c.args.at) (c.in_default.ensures.same tells)
           ∙ (block_read (g.D.Disk.state c.args.disk.now).contents c.args.at c.read_block.new.into (c.in_default.ensures.read tells) ∙ ap (λ (b : Block). b.bytes) (sym given.bytes));

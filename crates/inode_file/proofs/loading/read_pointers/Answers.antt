@@ -1,6 +1,8 @@
 use Rattle.std.proofs.Common.{◌∙◌, ap, sym, subst, inl, refl, arith}
 use Rattle.block_format.specs.Words.{words}
-use Rattle.block_format.specs.Index.{SpellsIndex}
+use Rattle.std.specs.Prelude.{All, take}
+use Rattle.block_format.specs.Index.{SpellsIndex, IsPointer}
+use Rattle.inode_file.proofs.LoadLaws.{index_of_counts}
 use Rattle.disk_model.specs.Disk.{State}
 use Rattle.vol_numbers.specs.declared.block.Block.{Block}
 use Rattle.vol_numbers.specs.Geometry.{layout_of}
@@ -20,7 +22,12 @@ returns-in-None-clause-damaged g c =
     record {
       number = given.number;
       rose = omega (arith, given.counted);
-      outside = inl (refl, λ ptrs spells. c.in-None.ensures.none ptrs (subst (λ (b : Block). SpellsIndex (layout_of c.args.g.now) ptrs b.bytes) given.bytes spells));
+      outside = inl (record {
+        is = refl;
+        outside = λ ptrs spells. c.in-None.ensures.none ptrs (subst (λ (b : Block). SpellsIndex (layout_of c.args.g.now) ptrs b.bytes) given.bytes spells);
+        pointer = λ all. c.in-None.ensures.none (words c.read_block.new.into.bytes)
+            (index_of_counts (layout_of c.args.g.now) c.read_block.new.into.bytes c.counts_of_block.ensures (subst (λ (b : Block). All (IsPointer (layout_of c.args.g.now)) (take 1024 (words b.bytes))) given.bytes all));
+      });
       stands = λ tells.
           ap (λ (s : State). blocks_in s.contents c.args.index) (c.in_default.ensures.same tells)
           ∙ (block_read (g.D.Disk.state c.args.disk.now).contents c.args.index c.read_block.new.into (c.in_default.ensures.read tells) ∙ ap (λ (b : Block). b.bytes) (sym given.bytes));
