@@ -24,7 +24,17 @@ use Rattle.image_model.specs.Slots.{slots_from}
 use Rattle.image_model.specs.Stands.{layout_in, records_in, used_in}
 use Rattle.image_model.specs.Walk.{walk, inodes_from}
 use Rattle.image_model.proofs.ExactLaws.{none_found_stands}
-use Rattle.image_rows.specs.Logs.{seventh_kind, spare_block, wanting_file, long_write, long_record}
+use Rattle.image_rows.specs.Logs.{seventh_kind, spare_block, wanting_file, long_write, long_record, full_area}
+use Rattle.vol_numbers.specs.Layout.{count_blocks}
+use Rattle.root_switch.specs.Current.{root_of_image}
+use Rattle.block_tree.specs.Tree.{blocks_in}
+use Rattle.space_account.specs.Charge.{need}
+use Rattle.volume_model.specs.Space.{free_blocks}
+use Rattle.image_model.specs.Findings.{free_in}
+use Rattle.image_model.proofs.FindingLaws.{then_first, then_second}
+use Rattle.image_model.proofs.NameLaws.{none_found_sound}
+use Rattle.image_model.proofs.RootExact.{roots_are_found}
+use Rattle.image_model.proofs.SpaceLaws.{free_seen}
 use Rattle.std.specs.Prelude.{◌≢◌}
 use Rattle.std.proofs.lemmas.List.Elements.{All-cons, All-nil}
 use Rattle.vol_numbers.specs.Name.{IsName}
@@ -63,6 +73,16 @@ module _ (image : List Block) (none : early_finding image ≡ None) where
       let some : 0 < record_blocks command = omega arith in
       let start : log_start (layout_in image) + 0 ≡ log_start (layout_in image) = omega arith in
       ap (slice_get image) (sym start) ∙ good.logged.stand.1 0 some
+
+-- what is said of a record that is accepted behind none
+record OneLogged (image : List Block) (none : early_finding image ≡ None) (command : Command) : Type 0 where
+  has : HasRecord command
+  stands : RecordStands image (log_start (layout_in image)) command
+  fits : need command ≤ free_blocks (layout_in image) (nothing_logged image none).tree (nothing_logged image none).places
+
+logged_one : (image : List Block) (none : early_finding image ≡ None) (command : Command) → HasAccepted image (and_command (nothing_logged image none) command) → OneLogged image none command
+unfolding nothing_logged
+logged_one image none command good = record { has = good.logged.stand.0; stands = good.logged.stand.1; fits = let fits = good.accepted.1 in omega (arith, fits) }
 
 -- the first byte of a record is its kind, of which there are six
 first_byte : (f : Fields) → slice_index (text_block (text_of f) 0).bytes 0 ≡ f.kind
@@ -254,4 +274,51 @@ at_long_record = inr (none_long, record {
   count = no_records long_record none_long;
   good = accepted long_record none_long;
   bad = inl (omega (arith, one_long), no_long);
+})
+
+-- ---- a record that needs more than is free
+
+none_full : early_finding full_area ≡ None
+unfolding words inode_in root_in slot_in body_finding tree_finding root_finding seen slots_from walk inodes_from
+none_full = refl
+
+start_full : log_start (layout_in full_area) ≡ 5
+unfolding root_in
+start_full = refl
+
+one_full : records_in full_area ≡ 1
+unfolding root_in
+one_full = refl
+
+sixteen_free : free_in (layout_in full_area) (seen full_area).kept ≡ 16
+unfolding words inode_in root_in seen walk inodes_from
+sixteen_free = refl
+
+stands_create : RecordStands full_area 5 (Create third)
+unfolding header
+stands_create zero lt = refl
+stands_create (suc i) lt = absurd (omega arith)
+
+-- the blocks with count 0 are those that are free by the formula
+free_is : (image : List Block) (none : early_finding image ≡ None) → free_in (layout_in image) (seen image).kept ≡ free_blocks (layout_in image) (nothing_logged image none).tree (nothing_logged image none).places
+unfolding seen nothing_logged
+free_is image none =
+    let sound = none_found_sound image (then_second (root_finding image) _ none) in
+    let fits = ((roots_are_found.none image).0 (then_first (root_finding image) _ none)).1 in
+    free_seen (blocks_in image) (root_of_image image).inode_index (root_of_image image).homes (count_blocks (layout_in image)) (layout_in image) (nothing_logged image none)
+    sound.pointers sound.directories sound.named sound.counts (record { ordered = (none_found_stands image none).1; tree = (none_found_stands image none).2; places = refl }) (omega (arith, fits.geometry.valid.area_at_least))
+
+no_create : (command : Command) → HasAccepted full_area (and_command (nothing_logged full_area none_full) command) → ⊥
+no_create command good =
+    let parts = logged_one full_area none_full command good in
+    let same : command ≡ Create third = one_command full_area 5 command (Create third) parts.has third_has (subst (λ (at : ℕ). RecordStands full_area at command) start_full parts.stands) stands_create in
+    let needs : need (Create third) ≡ 28 = refl in
+    omega (arith, parts.fits, ap need same, needs, sixteen_free, free_is full_area none_full)
+
+pub at_full_area : Finds full_area (BadLog 0)
+at_full_area = inr (none_full, record {
+  before = nothing_logged full_area none_full;
+  count = no_records full_area none_full;
+  good = accepted full_area none_full;
+  bad = inl (omega (arith, one_full), no_create);
 })
