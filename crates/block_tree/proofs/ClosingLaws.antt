@@ -6,17 +6,17 @@ use Rattle.std.proofs.lemmas.Bool.Decides.{nat_tests}
 use Rattle.std.proofs.lemmas.List.{get_or-set_same, get_or-set_other, get_or_past}
 use Rattle.std.proofs.lemmas.List.Sums.{sum_by-set}
 use Rattle.vol_numbers.specs.declared.runs.Change.{Change}
-use Rattle.block_tree.specs.Tree.{Blocks, index_at, nonzero}
+use Rattle.block_tree.specs.Tree.{Blocks, index_at, leaf_below, nonzero}
 use Rattle.block_tree.specs.Parts.{leaf_of, all_pointers}
-use Rattle.block_tree.specs.Root.{block_at, tree_indexes}
+use Rattle.block_tree.specs.Root.{block_at, leaf_at, tree_indexes}
 use Rattle.place_words.specs.Different.{times}
-use Rattle.block_tree.specs.Notes.{Noted, Stand, Settles, Takes, Sourced, refs, paged}
-use Rattle.block_tree.specs.Edit.{cut_at, changed_at, IsLeafBefore, IsLeafAfter, IsEmptied}
+use Rattle.block_tree.specs.Notes.{Noted, Stand, Settles, Takes, refs, paged}
+use Rattle.block_tree.specs.Edit.{cut_at, changed_at, IsLeafBefore, IsLeafAfter, IsEmptied, KeepsLeaf}
 use Rattle.block_tree.specs.Renewal.{IsRenewed}
 use Rattle.block_tree.specs.Leaf.{StaysAt, FullAt, IsFirstRewritten, AreLeavesRewritten, level}
 use Rattle.block_tree.specs.Opened.{Opens, PartsStay, PartsFull, FitsHeight, ChangesFit, HasLeaves, IsTreeRewritten}
 use Rattle.block_tree.specs.declared.root.TreeRoot.{TreeRoot}
-use Rattle.block_tree.proofs.SourceLaws.{sourced_same, sourced_then}
+use Rattle.block_tree.proofs.EntryLaws.{same_list, some_nonzero}
 use Rattle.block_tree.proofs.NoteLaws.{refs-set, refs-append, times-append, settles_beside, settles_none}
 use Rattle.block_tree.proofs.LeafLaws.{settles_then, refs-level, level_like, zeros_lead_nowhere, nonzero-cons}
 use Rattle.block_tree.proofs.OpeningLaws.{no_leaf, block_at_leaf}
@@ -66,7 +66,7 @@ first_settles {leaves = leaves} {first = first} new data_ opened long after stay
     )
 
 module _ {read : Blocks} {root : TreeRoot} {changes : List Change} {cut top : ℕ} {was leaves first : List ℕ} (opened : Opens read root top was leaves first) (long : length leaves ≡ 1024)
-    (new : ℕ) {n o : Noted} {free left : List ℕ} (takes : Takes free left n o) (over : Bool) (end : ℕ) (rewritten : List ℕ)
+    (new : ℕ) {n o : Noted} (takes : Takes n o) (over : Bool) (end : ℕ) (rewritten : List ℕ)
     (rest : AreLeavesRewritten read changes cut over end (set leaves 0 new) rewritten n o)
     (all : end ≢ 1024 → (root.height < 2) × ((j : ℕ) → 1 ≤ j → j < 1024 → IsEmptied changes cut (block_at read root) j)) (at_most : end ≤ 1024) where
   abbrev old : ℕ → ℕ
@@ -119,8 +119,19 @@ module _ {read : Blocks} {root : TreeRoot} {changes : List Change} {cut top : �
       (cases_lt (suc j) 1024))
       (cases_lt (suc j) end)
 
+  kept_at : {m : Noted} → IsFirstRewritten read changes cut (slice_index leaves 0) first new m n → (j : ℕ) → j < 1024 → KeepsLeaf changes cut old j (leaf_at read root j) (slice_index rewritten j)
+  kept_at edited zero lt =
+      subst (λ (t : ℕ). KeepsLeaf changes cut old 0 (leaf_at read root 0) t) (sym first_is)
+      (subst (λ (t : ℕ). KeepsLeaf changes cut old 0 t new) (opened.blocks 0 lt) (edited.kept old opened.first_places))
+  kept_at edited (suc j) lt = ⊎_elim
+      (λ below. subst (λ (t : ℕ). KeepsLeaf changes cut old (suc j) t (slice_index rewritten (suc j))) (other (suc j) (omega arith) ∙ opened.blocks (suc j) lt) (rest.kept old rest_were (suc j) (omega arith) below))
+      (λ past same i small some there. rest.same (suc j) past ∙ (other (suc j) (omega arith) ∙ opened.blocks (suc j) lt))
+      (cases_lt (suc j) end)
+
   pub leaves_done : {m : Noted} → IsFirstRewritten read changes cut (slice_index leaves 0) first new m n → HasLeaves read root changes cut over top was rewritten m o
   leaves_done {m = m} edited = record {
+    kept = kept_at edited;
+    tops = opened.tops;
     places = places_at edited;
     settles = λ after stand stays.
         let s = edited.settles after (takes.grows after stand) (opened.stay after stays 0) in
@@ -132,7 +143,6 @@ module _ {read : Blocks} {root : TreeRoot} {changes : List Change} {cut top : �
     top_is = opened.top_is;
     full = full_at edited;
     indexes = λ b. omega (arith, opened.indexes b, edited.indexes b, refs-set b leaves 0 new (omega (arith, long)), rest.indexes b);
-    sources = sourced_then edited.sources rest.sources;
   }
 
   -- where the leaf 0 gives way, the pages of before are at most old index blocks and pages
@@ -176,12 +186,25 @@ nonzero_first (x ∷ xs) some zeros = nonzero-cons x xs [] (zeros_lead_nowhere x
 pub settles_remove : (x : ℕ) (m : Noted) → Settles (x ∷ []) [] m (record m { dropped = m.dropped ++ nonzero (x ∷ []) })
 settles_remove x m = record { each = λ b. omega (arith, times-append b m.dropped (nonzero (x ∷ []))) }
 
+-- a top index that has a leaf is there
+top_there : (read : Blocks) (root : TreeRoot) (k : ℕ) → root.height ≡ 2 → 0 < leaf_at read root k → 0 < root.ptr
+top_there read root k two some = some_block root.ptr (subst (λ (h : ℕ). 0 < leaf_below read h root.ptr k) two some)
+  where
+    some_block : (p : ℕ) → 0 < slice_index (index_at read p) k → 0 < p
+    some_block zero lt = absurd (omega (arith, lt))
+    some_block (suc p) lt = omega arith
+
 module _ {read : Blocks} {root : TreeRoot} {changes : List Change} {cut top : ℕ} {was leaves : List ℕ} {m n : Noted} {over : Bool} (has : HasLeaves read root changes cut over top was leaves m n) (long : length leaves ≡ 1024) where
   -- the leaf 0 alone
   pub tree_leaf : IsTrue over → FitsHeight read root cut 1 → ChangesFit 1 changes → IsTreeRewritten read root changes cut (record { height = 1; ptr = slice_index leaves 0 }) m (record n { dropped = n.dropped ++ nonzero (top ∷ []) })
   tree_leaf is fits all =
       let emptied : (j : ℕ) → 1 ≤ j → j < 1024 → IsEmptied changes cut (block_at read root) j = λ j some lt. emptied_leaf read root changes cut 1 j fits all (omega arith) some lt in
       record {
+        kept = λ after stand stays high k lt. ⊎_elim
+            (λ first. subst (λ (j : ℕ). KeepsLeaf changes cut (block_at read root) j (leaf_at read root j) (leaf_at after (record { height = 1; ptr = slice_index leaves 0 }) j)) (sym first) (has.kept 0 (omega arith)))
+            (λ other same i small some there. absurd (omega (arith, some, same i small, emptied k (omega (arith, other)) lt i small)))
+            (cases_eq k 0);
+        kept_top = λ after stand stays two high. absurd (omega (arith, high));
         places = λ after stand stays. by_leaves after (record { height = 1; ptr = slice_index leaves 0 }) (changed_at changes (cut_at cut (block_at read root))) (λ j lt i small. ⊎_elim
             (λ first. subst (λ (k : ℕ). slice_index (leaf_of after (record { height = 1; ptr = slice_index leaves 0 }) k) i ≡ changed_at changes (cut_at cut (block_at read root)) (1024 * k + i)) (sym first)
             (has.places after (record { each = stand.each }) stays 0 (omega arith) i small))
@@ -206,12 +229,18 @@ module _ {read : Blocks} {root : TreeRoot} {changes : List Change} {cut top : �
               has.indexes b,
               ap (λ (v : List ℕ). times b v) (nonzero_first leaves (omega (arith, long)) (λ j some lt. has.none is j some (omega (arith, lt, long)) (emptied j some (omega (arith, lt, long))))),
             );
-        sources = sourced_then has.sources (sourced_same changes n (record n { dropped = n.dropped ++ nonzero (top ∷ []) }) refl refl);
       }
 
   -- the leaves under a top index
-  pub tree_top : (new : ℕ) {free left : List ℕ} {o : Noted} → IsRenewed top was leaves new free left n o → IsTreeRewritten read root changes cut (record { height = 2; ptr = new }) m o
-  tree_top new renewed = record {
+  pub tree_top : (new : ℕ) {o : Noted} → length was ≡ 1024 → IsRenewed top was leaves new n o → IsTreeRewritten read root changes cut (record { height = 2; ptr = new }) m o
+  tree_top new as_long renewed = record {
+    kept = λ after stand stays high k lt same i small some there. (renewed.entries after stand (has.top_is after stays)).each k ∙ has.kept k lt same i small some there;
+    kept_top = λ after stand stays two high all k some.
+        let tops = has.tops two in
+        let there : 0 < top = omega (arith, tops.0, top_there read root k two some) in
+        let same : leaves ≡ was = same_list leaves was (long ∙ sym as_long) (λ j lt. sym ((renewed.entries after stand (has.top_is after stays)).each j) ∙ (all j (omega (arith, lt, long)) ∙ sym (tops.1 j))) in
+        let is : slice_index leaves k ≡ leaf_at read root k = ap (λ (v : List ℕ). slice_index v k) same ∙ tops.1 k in
+        (renewed.kept there same (λ none. some_nonzero leaves k (omega (arith, some, is)) none)).0 ∙ tops.0;
     places = λ after stand stays. by_leaves after (record { height = 2; ptr = new }) (changed_at changes (cut_at cut (block_at read root))) (λ j lt i small.
         ap (λ (t : ℕ). slice_index (index_at after t) i) ((renewed.entries after stand (has.top_is after stays)).each j)
         ∙ has.places after (renewed.takes.grows after stand) stays j lt i small);
@@ -238,14 +267,15 @@ module _ {read : Blocks} {root : TreeRoot} {changes : List Change} {cut top : �
           refs-append b (new ∷ []) (index_at after new),
           ap (λ (v : List ℕ). times b v) (renewed.entries after stand (has.top_is after stays)).some,
         );
-    sources = sourced_then has.sources (renewed.sources changes);
   }
 
 -- the block of place 0 alone
 pub tree_block : {read : Blocks} {root : TreeRoot} {changes : List Change} {cut : ℕ} {ptrs : List ℕ} {m n : Noted} → length ptrs ≡ 1024 → IsLeafAfter changes cut (block_at read root) 0 ptrs
     → FitsHeight read root cut 0 → ChangesFit 0 changes → ((after : Blocks) → Stand n.pages after → PartsStay read root after → Settles (all_pointers read root) ptrs m n)
-    → ((b : ℕ) → paged b m ≤ times b (tree_indexes read root) + paged b n) → Sourced changes m n → IsTreeRewritten read root changes cut (record { height = 0; ptr = slice_index ptrs 0 }) m n
-tree_block {read = read} {root = root} {changes = changes} {cut = cut} {ptrs = ptrs} long places fits all settles indexes sources = record {
+    → ((b : ℕ) → paged b m ≤ times b (tree_indexes read root) + paged b n) → IsTreeRewritten read root changes cut (record { height = 0; ptr = slice_index ptrs 0 }) m n
+tree_block {read = read} {root = root} {changes = changes} {cut = cut} {ptrs = ptrs} long places fits all settles indexes = record {
+  kept = λ after stand stays high. absurd (omega (arith, high));
+  kept_top = λ after stand stays two high. absurd (omega (arith, high));
   places = λ after stand stays. by_leaves after new at (λ j lt i small. ⊎_elim
       (λ first. subst (λ (k : ℕ). slice_index (leaf_of after new k) i ≡ at (1024 * k + i)) (sym first) (in_first i small))
       (λ other. ap (λ (v : List ℕ). slice_index v i) (sym (no_leaf (slice_index ptrs 0 ∷ []) j (omega (arith, other))))
@@ -256,7 +286,6 @@ tree_block {read = read} {root = root} {changes = changes} {cut = cut} {ptrs = p
   };
   full = λ after stand stays full. tt;
   indexes = λ after stand stays b. omega (arith, indexes b);
-  sources = sources;
 }
   where
     new : TreeRoot
@@ -271,3 +300,15 @@ tree_block {read = read} {root = root} {changes = changes} {cut = cut} {ptrs = p
     in_first : (i : ℕ) → i < 1024 → slice_index (slice_index ptrs 0 ∷ []) i ≡ changed_at changes (cut_at cut (block_at read root)) (1024 * 0 + i)
     in_first zero small = places 0 (omega arith)
     in_first (suc i) small = sym (past (suc i) (omega arith) small)
+
+-- the same tree, by other changes that come to the same
+pub tree_like : {read : Blocks} {root : TreeRoot} {xs : List Change} (ys : List Change) {cut : ℕ} {new : TreeRoot} {m n : Noted} → ((old : ℕ → ℕ) (p : ℕ) → changed_at xs old p ≡ changed_at ys old p)
+    → IsTreeRewritten read root xs cut new m n → IsTreeRewritten read root ys cut new m n
+tree_like {read = read} {root = root} ys {cut = cut} like made = record {
+  kept = λ after stand stays high k lt same. made.kept after stand stays high k lt (λ i small. like (cut_at cut (block_at read root)) (1024 * k + i) ∙ same i small);
+  kept_top = made.kept_top;
+  places = λ after stand stays p lt. made.places after stand stays p lt ∙ like (cut_at cut (block_at read root)) p;
+  settles = made.settles;
+  full = made.full;
+  indexes = made.indexes;
+}

@@ -10,6 +10,27 @@ use Rattle.block_format.specs.Index.{IsPointer}
 use Rattle.block_tree.specs.Tree.{Blocks, blocks_in, index_at, nonzero}
 use Rattle.block_tree.specs.Parts.{SameEntries}
 
+-- by each element
+pub same_list : (xs ys : List ℕ) → length xs ≡ length ys → ((i : ℕ) → i < length xs → slice_index xs i ≡ slice_index ys i) → xs ≡ ys
+same_list [] [] long each = refl
+same_list [] (y ∷ ys) long each = absurd (omega (arith, long))
+same_list (x ∷ xs) [] long each = absurd (omega (arith, long))
+same_list (x ∷ xs) (y ∷ ys) long each =
+    let head : x ≡ y = each 0 (omega arith) in
+    let rest = same_list xs ys (omega (arith, long)) (λ i lt. each (suc i) (omega arith)) in
+    λ t. head t ∷ rest t
+
+-- where one leads to a block, not all are 0
+pub some_nonzero : (ptrs : List ℕ) (i : ℕ) → 0 < slice_index ptrs i → nonzero ptrs ≡ [] → ⊥
+some_nonzero [] i some e = omega (arith, some)
+some_nonzero (zero ∷ ps) zero some e = omega (arith, some)
+some_nonzero (zero ∷ ps) (suc i) some e = some_nonzero ps i some e
+some_nonzero (suc p ∷ ps) i some e = first (suc p == 0) refl e
+  where
+    first : (t : Bool) → (suc p == 0) ≡ t → cond (Rattle.std.specs.Prelude.not t) (suc p ∷ nonzero ps) (nonzero ps) ≡ [] → ⊥
+    first true is same = grind (arith, nat_tests, is)
+    first false is same = cc
+
 pub nonzero_zeros : (n : ℕ) → nonzero (replicate n 0) ≡ []
 nonzero_zeros zero = refl
 nonzero_zeros (suc n) = nonzero_zeros n

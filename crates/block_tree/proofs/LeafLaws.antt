@@ -12,12 +12,12 @@ use Rattle.vol_numbers.specs.declared.runs.Change.{Change}
 use Rattle.block_tree.specs.Tree.{Blocks, index_at, nonzero}
 use Rattle.place_words.specs.Different.{times}
 use Rattle.block_tree.specs.Parts.{SameEntries}
-use Rattle.block_tree.specs.Notes.{Noted, Stand, Settles, Takes, AddsNew, page_blocks, refs, paged}
-use Rattle.block_tree.specs.Edit.{IsLeafBefore, IsLeafAfter, IsEmptied, IsEdit, cut_at}
+use Rattle.block_tree.specs.Notes.{Noted, Stand, Settles, Takes, page_blocks, refs}
+use Rattle.block_tree.specs.Edit.{IsLeafBefore, IsLeafAfter, IsEmptied, IsEdit, KeepsLeaf, portion, cut_at}
 use Rattle.block_tree.specs.Renewal.{IsRenewed, IsNoted}
 use Rattle.block_tree.specs.Leaf.{StaysAt, FullAt, IsLeafEdited, IsLeafRewritten, IsFirstRewritten, IsUntouched, AreLeavesRewritten, level}
 use Rattle.block_tree.proofs.EditLaws.{changed_elsewhere, kept_below}
-use Rattle.block_tree.proofs.SourceLaws.{sourced_same, sourced_then, sourced_noted}
+use Rattle.block_tree.proofs.EntryLaws.{same_list, some_nonzero}
 use Rattle.block_tree.proofs.NoteLaws.{refs-set, refs-append, settles_beside, settles_none}
 
 pub stand_same : (m n : Noted) (read : Blocks) → n.pages ≡ m.pages → Stand n.pages read → Stand m.pages read
@@ -40,10 +40,13 @@ zeros_lead_nowhere (p ∷ ps) zeros =
     ap (λ (x : ℕ). nonzero (x ∷ ps)) head ∙ zeros_lead_nowhere ps (λ i lt. zeros (suc i) (omega arith))
 
 -- the old pointers are edited, the block is renewed, and what comes and goes is noted
-pub leaf_is_edited : {changes : List Change} {cut k leaf new : ℕ} {was ptrs free left : List ℕ} {m n o : Noted}
-    → length ptrs ≡ 1024 → IsEdit changes cut k was ptrs → IsRenewed leaf was ptrs new free left m n → IsNoted was ptrs n o → length was ≡ 1024 → AddsNew (length was) was ptrs n o
+pub leaf_is_edited : {changes : List Change} {cut k leaf new : ℕ} {was ptrs : List ℕ} {m n o : Noted}
+    → length ptrs ≡ 1024 → IsEdit changes cut k was ptrs → IsRenewed leaf was ptrs new m n → IsNoted was ptrs n o → length was ≡ 1024
     → IsLeafEdited changes cut k leaf was new m o
-leaf_is_edited {changes = changes} {cut = cut} {k = k} {new = new} {was = was} {ptrs = ptrs} {n = n} {o = o} long edits renewed noted as_long adds = record {
+leaf_is_edited {changes = changes} {cut = cut} {k = k} {new = new} {was = was} {ptrs = ptrs} {n = n} {o = o} long edits renewed noted as_long = record {
+  kept = λ old before same i small some there.
+      let is : ptrs ≡ was = same_list ptrs was (long ∙ sym as_long) (λ j lt. edits old before j (omega (arith, lt, long)) ∙ (same j (omega (arith, lt, long)) ∙ sym (before j (omega (arith, lt, long))))) in
+      (renewed.kept there is (λ none. some_nonzero was i (subst (λ (x : ℕ). 0 < x) (sym (before i small)) some) (ap nonzero (sym is) ∙ none))).0;
   places = λ after old stand same before i lt. (renewed.entries after (stand_same n o after noted.pages stand) same).each i ∙ edits old before i lt;
   settles = λ after stand same.
       settles_like refl (sym (nonzero-cons new (index_at after new) ptrs (renewed.entries after (stand_same n o after noted.pages stand) same).some))
@@ -53,16 +56,15 @@ leaf_is_edited {changes = changes} {cut = cut} {k = k} {new = new} {was = was} {
       let e = (renewed.entries after (stand_same n o after noted.pages stand) same).some in
       omega (arith, some, renewed.none (sym e ∙ empty));
   indexes = λ b. omega (arith, renewed.indexes b, ap (λ (ps : List Page). times b (page_blocks ps)) noted.pages);
-  sources = sourced_then (renewed.sources changes) (sourced_noted changes cut k was ptrs as_long edits adds noted.pages);
 }
 
-pub takes_noted : {was ptrs free left : List ℕ} {m n o : Noted} → Takes free left m n → IsNoted was ptrs n o → Takes free left m o
-takes_noted {left = left} {n = n} {o = o} takes noted = record {
-  in_order = ap (λ (ps : List Page). page_blocks ps ++ left) noted.pages ∙ takes.in_order;
+pub takes_noted : {was ptrs : List ℕ} {m n o : Noted} → Takes m n → IsNoted was ptrs n o → Takes m o
+takes_noted {n = n} {o = o} takes noted = record {
+  in_order = ap (λ (ps : List Page). page_blocks ps ++ o.free) noted.pages ∙ (ap (λ (xs : List ℕ). page_blocks n.pages ++ xs) noted.free ∙ takes.in_order);
   grows = λ read stand. takes.grows read (stand_same n o read noted.pages stand);
 }
 
-pub takes_then : {free mid left : List ℕ} {m n o : Noted} → Takes free mid m n → Takes mid left n o → Takes free left m o
+pub takes_then : {m n o : Noted} → Takes m n → Takes n o → Takes m o
 takes_then first second = record { in_order = second.in_order ∙ first.in_order; grows = λ read stand. first.grows read (second.grows read stand) }
 
 pub index_stays : (read after : Blocks) (leaf : ℕ) → StaysAt read after leaf → index_at after leaf ≡ index_at read leaf
@@ -72,50 +74,50 @@ index_stays read after (suc leaf) stays = ap (λ (v : List ℕ). if suc leaf == 
 pub leaf_is_rewritten : {read : Blocks} {changes : List Change} {cut : ℕ} {over : Bool} {k leaf new : ℕ} {was : List ℕ} {m n : Noted}
     → SameEntries (index_at read leaf) was → IsLeafEdited changes cut k leaf was new m n → IsLeafRewritten read changes cut over k leaf new m n
 leaf_is_rewritten {read = read} {leaf = leaf} {was = was} same edited = record {
+  kept = λ old before. edited.kept old (λ i lt. sym (same.each i) ∙ before i lt);
   places = λ after old stand stays before. edited.places after old stand (λ some. here after stays) (λ i lt. sym (same.each i) ∙ before i lt);
   settles = λ after stand stays. settles_like (nonzero-cons leaf was (index_at after leaf) (sym (here after stays).some)) refl (edited.settles after stand (λ some. here after stays));
   none = λ is old before emptied. edited.none old (λ i lt. sym (same.each i) ∙ before i lt) emptied;
   full = λ after stand stays was_full. edited.full after stand (λ some. here after stays);
   indexes = edited.indexes;
-  sources = edited.sources;
 }
   where
     here : (after : Blocks) → StaysAt read after leaf → SameEntries (index_at after leaf) was
     here after stays = subst (λ (xs : List ℕ). SameEntries xs was) (sym (index_stays read after leaf stays)) same
 
 -- a leaf that isn't gone over
-pub leaf_untouched : {read : Blocks} {changes : List Change} {cut : ℕ} {over : Bool} (k leaf : ℕ) (m : Noted) → IsUntouched over changes cut k → IsLeafRewritten read changes cut over k leaf leaf m m
-leaf_untouched {read = read} {changes = changes} {cut = cut} k leaf m untouched = record {
+pub leaf_untouched : {read : Blocks} {changes part : List Change} {cut : ℕ} {over : Bool} (k leaf : ℕ) (m : Noted) → part ≡ portion k changes → IsUntouched over part cut k → IsLeafRewritten read changes cut over k leaf leaf m m
+leaf_untouched {read = read} {changes = changes} {cut = cut} k leaf m part_is untouched = record {
+  kept = λ old before same i small some there. refl;
   places = λ after old stand stays before i lt.
       ap (λ (v : List ℕ). slice_index v i) (index_stays read after leaf stays)
       ∙ (before i lt
-      ∙ sym (changed_elsewhere k (1024 * k + i) changes (cut_at cut old) untouched.unchanged (omega (arith, lt)) ∙ kept_below cut old (1024 * k + i) (omega (arith, lt, untouched.kept))));
+      ∙ sym (changed_elsewhere k (1024 * k + i) changes (cut_at cut old) (sym part_is ∙ untouched.unchanged) (omega (arith, lt)) ∙ kept_below cut old (1024 * k + i) (omega (arith, lt, untouched.kept))));
   settles = λ after stand stays. settles_none m (leaf ∷ index_at after leaf);
   none = λ is. absurd (untouched.passed is);
   full = λ after stand stays full some. subst (λ (v : List ℕ). nonzero v ≡ [] → ⊥) (sym (index_stays read after leaf stays)) (full some);
   indexes = λ b. omega arith;
-  sources = sourced_same changes m m refl refl;
 }
 
 -- the leaf 0, made of the block of place 0, and as it was on the disk
 pub first_made : {read : Blocks} {changes : List Change} {cut : ℕ} (leaf : ℕ) {first was : List ℕ} {new : ℕ} {m n : Noted} → leaf ≡ 0 → SameEntries first was → IsLeafEdited changes cut 0 leaf was new m n
     → IsFirstRewritten read changes cut leaf first new m n
 first_made leaf {first = first} {was = was} none same edited = record {
+  kept = λ old before. edited.kept old (λ i lt. sym (same.each i) ∙ before i lt);
   places = λ after old stand stays before. edited.places after old stand (λ some. absurd (omega (arith, some, none))) (λ i lt. sym (same.each i) ∙ before i lt);
   settles = λ after stand stays. settles_like (nonzero-cons leaf was first (sym same.some)) refl (edited.settles after stand (λ some. absurd (omega (arith, some, none))));
   full = λ after stand stays full. edited.full after stand (λ some. absurd (omega (arith, some, none)));
   indexes = edited.indexes;
-  sources = edited.sources;
 }
 
 pub first_kept : {read : Blocks} {changes : List Change} {cut : ℕ} {over : Bool} (leaf : ℕ) {new : ℕ} {m n : Noted} → IsLeafRewritten read changes cut over 0 leaf new m n
     → IsFirstRewritten read changes cut leaf (index_at read leaf) new m n
 first_kept {read = read} leaf {new = new} {m = m} {n = n} rewritten = record {
+  kept = rewritten.kept;
   places = λ after old stand stays before. rewritten.places after old stand stays before;
   settles = λ after stand stays. subst (λ (v : List ℕ). Settles (leaf ∷ v) (new ∷ index_at after new) m n) (index_stays read after leaf stays) (rewritten.settles after stand stays);
   full = λ after stand stays full. rewritten.full after stand stays full;
   indexes = rewritten.indexes;
-  sources = rewritten.sources;
 }
 
 -- the pointers of a level, leaf by leaf
@@ -147,16 +149,16 @@ module _ (read : Blocks) (changes : List Change) (cut : ℕ) (over : Bool) (befo
     long = long;
     same = λ j le. refl;
     first = refl;
+    kept = λ old was j some lt. absurd (omega (arith, some, lt));
     places = λ after old stand stays is j some lt. absurd (omega (arith, some, lt));
     settles = λ after stand stays. settles_none m (level after before);
     none = λ is old was j some lt. absurd (omega (arith, some, lt));
     full = λ after stand stays was_full j some lt. absurd (omega (arith, some, lt));
     indexes = λ b. omega arith;
-    sources = sourced_same changes m m refl refl;
   }
 
-  pub leaves_more : (k : ℕ) (leaves : List ℕ) (new : ℕ) {free left : List ℕ} {m n o : Noted} → 1 ≤ k → k < 1024 → AreLeavesRewritten read changes cut over k before leaves m n
-      → IsLeafRewritten read changes cut over k (slice_index leaves k) new n o → Takes free left n o → AreLeavesRewritten read changes cut over (k + 1) before (set leaves k new) m o
+  pub leaves_more : (k : ℕ) (leaves : List ℕ) (new : ℕ) {m n o : Noted} → 1 ≤ k → k < 1024 → AreLeavesRewritten read changes cut over k before leaves m n
+      → IsLeafRewritten read changes cut over k (slice_index leaves k) new n o → Takes n o → AreLeavesRewritten read changes cut over (k + 1) before (set leaves k new) m o
   leaves_more k leaves new some lt so_far one takes =
       let is : slice_index leaves k ≡ slice_index before k = so_far.same k (omega arith) in
       let in_list : k < length leaves = omega (arith, so_far.long) in
@@ -164,6 +166,13 @@ module _ (read : Blocks) (changes : List Change) (cut : ℕ) (over : Bool) (befo
         long = length-set leaves k new ∙ so_far.long;
         same = λ j le. get_or-set_other leaves k j new 0 (λ e. omega (arith, e, le)) ∙ so_far.same j (omega (arith, le));
         first = get_or-set_other leaves k 0 new 0 (λ e. omega (arith, e, some)) ∙ so_far.first;
+        kept = λ old was j at_least below. ⊎_elim
+            (λ here. subst (λ (i : ℕ). KeepsLeaf changes cut old i (slice_index before i) (slice_index (set leaves k new) i)) (sym here)
+            (subst (λ (t : ℕ). KeepsLeaf changes cut old k (slice_index before k) t) (sym (get_or-set_same leaves k new 0 in_list))
+            (subst (λ (t : ℕ). KeepsLeaf changes cut old k t new) is (one.kept old (subst (λ (t : ℕ). IsLeafBefore old k (index_at read t)) (sym is) (was k some lt))))))
+            (λ other. subst (λ (t : ℕ). KeepsLeaf changes cut old j (slice_index before j) t) (sym (get_or-set_other leaves k j new 0 other))
+            (so_far.kept old was j at_least (omega (arith, other, below))))
+            (cases_eq j k);
         places = λ after old stand stays was j at_least below. ⊎_elim
             (λ here. subst (λ (i : ℕ). IsLeafAfter changes cut old i (index_at after (slice_index (set leaves k new) i))) (sym here)
             (subst (λ (t : ℕ). IsLeafAfter changes cut old k (index_at after t)) (sym (get_or-set_same leaves k new 0 in_list))
@@ -184,7 +193,6 @@ module _ (read : Blocks) (changes : List Change) (cut : ℕ) (over : Bool) (befo
             (λ other. subst (λ (t : ℕ). FullAt after t) (sym (get_or-set_other leaves k j new 0 other)) (so_far.full after (takes.grows after stand) stays was_full j at_least (omega (arith, other, below))))
             (cases_eq j k);
         indexes = λ b. omega (arith, so_far.indexes b, one.indexes b, refs-set b leaves k new in_list);
-        sources = sourced_then so_far.sources one.sources;
       }
 
 -- a sum in which zeros count nothing
@@ -217,9 +225,16 @@ level_stays read after xs stays = ap (λ (v : List ℕ). xs ++ v) (rest xs stays
         let tail = rest ys (λ j. stays (suc j)) in
         λ i. head i ++ tail i
 
--- by the pages alone
-pub takes_pages : {free left : List ℕ} {m n m' n' : Noted} → m'.pages ≡ m.pages → n'.pages ≡ n.pages → Takes free left m n → Takes free left m' n'
-takes_pages {free = free} {left = left} {m = m} {n = n} {m' = m'} {n' = n'} em en takes = record {
-  in_order = ap (λ (ps : List Page). page_blocks ps ++ left) en ∙ (takes.in_order ∙ ap (λ (ps : List Page). page_blocks ps ++ free) (sym em));
+-- by the pages and the free blocks alone
+pub takes_like : {m n m' n' : Noted} → m'.pages ≡ m.pages → m'.free ≡ m.free → n'.pages ≡ n.pages → n'.free ≡ n.free → Takes m n → Takes m' n'
+takes_like {m = m} {n = n} {m' = m'} {n' = n'} em mf en nf takes = record {
+  in_order = ap (λ (ps : List Page). page_blocks ps ++ n'.free) en
+      ∙ (ap (λ (xs : List ℕ). page_blocks n.pages ++ xs) nf ∙ (takes.in_order ∙ (ap (λ (ps : List Page). page_blocks ps ++ m.free) (sym em) ∙ ap (λ (xs : List ℕ). page_blocks m'.pages ++ xs) (sym mf))));
   grows = λ read stand. stand_same m' m read (sym em) (takes.grows read (stand_same n n' read en stand));
+}
+
+pub takes_none : (m n : Noted) → n.pages ≡ m.pages → n.free ≡ m.free → Takes m n
+takes_none m n pages free = record {
+  in_order = ap (λ (ps : List Page). page_blocks ps ++ n.free) pages ∙ ap (λ (xs : List ℕ). page_blocks m.pages ++ xs) free;
+  grows = λ read stand. stand_same m n read pages stand;
 }

@@ -9,9 +9,12 @@ pub mod NoteLaws
 pub mod OpeningLaws
 pub mod Pairs
 pub mod PartLaws
+pub mod PlanLaws
+pub mod PortionLaws
 pub mod RenewalLaws
 pub mod Rise
 pub mod RoomLaws
-pub mod SourceLaws
+pub mod SoundLaws
 pub mod Spell
 pub mod UntouchedLaws
+pub mod UseLaws

@@ -1,5 +1,5 @@
 -- What is noted adds up.
-use Rattle.std.proofs.Common.{◌≡◌, ◌<◌, ℕ, ◌+◌, List, [], ◌∷◌, ◌++◌, length, get_or, set, take, Bool, true, false, ◌≤◌, ◌==◌, refl, ap, sym, ◌∙◌, subst, arith}
+use Rattle.std.proofs.Common.{◌≡◌, ◌<◌, ℕ, zero, suc, ◌+◌, List, [], ◌∷◌, ◌++◌, length, get_or, set, take, Bool, true, false, ◌≤◌, ◌==◌, refl, ap, sym, ◌∙◌, subst, arith}
 use Rattle.std.specs.Prelude.{All, not, if◌then◌else◌}
 use Rattle.std.specs.List.{sum_by}
 use Rattle.std.proofs.lemmas.List.Sums.{sum_by-set, sum_by-cons}
@@ -8,8 +8,9 @@ use Rattle.std.proofs.lemmas.List.Elements.{filter-append}
 use Rattle.vol_numbers.specs.declared.runs.Page.{Page}
 use Rattle.block_tree.specs.Tree.{Blocks, nonzero}
 use Rattle.place_words.specs.Different.{times}
-use Rattle.block_tree.specs.Notes.{Noted, Stand, Settles, page_blocks, refs, paged}
+use Rattle.block_tree.specs.Notes.{Noted, Stand, Settles, brought, page_blocks, refs}
 use Rattle.block_tree.specs.Renewal.{IsNoted}
+use Rattle.block_tree.proofs.EditLaws.{cond_same, cond_other}
 
 pub times-append : (b : ℕ) (xs ys : List ℕ) → times b (xs ++ ys) ≡ times b xs + times b ys
 times-append b [] ys = omega arith
@@ -49,14 +50,47 @@ settles_beside {xs = xs} {ys = ys} {zs = zs} {ws = ws} first second = record {
 pub settles_change : (old new : List ℕ) (m : Noted) → Settles old new m (record m { dropped = m.dropped ++ nonzero old; added = m.added ++ nonzero new })
 settles_change old new m = record { each = λ b. omega (arith, times-append b m.dropped (nonzero old), times-append b m.added (nonzero new)) }
 
-pub noted_change : (old new : List ℕ) (m : Noted) → IsNoted old new m (record m { dropped = m.dropped ++ nonzero old; added = m.added ++ nonzero new })
-noted_change old new m = record { settles = settles_change old new m; pages = refl }
+pub brought-append : (b : ℕ) (xs ys us vs : List ℕ) → length xs ≡ length ys → brought b (xs ++ us) (ys ++ vs) ≡ brought b xs ys + brought b us vs
+brought-append b [] [] us vs e = omega arith
+brought-append b [] (y ∷ ys) us vs e = absurd (omega (arith, e))
+brought-append b (x ∷ xs) [] us vs e = absurd (omega (arith, e))
+brought-append b (x ∷ xs) (y ∷ ys) us vs e = let rest = brought-append b xs ys us vs (omega (arith, e)) in omega (arith, rest)
+
+pub noted_same : (old new : ℕ) (m : Noted) → old ≡ new → IsNoted (old ∷ []) (new ∷ []) m m
+noted_same old new m same = record {
+  settles = record { each = λ b. omega (arith, ap (λ (x : ℕ). times b (nonzero (x ∷ []))) same) };
+  added = λ b. omega (arith, cond_same new old 0 (refs b (new ∷ [])) (sym same));
+  pages = refl;
+  free = refl;
+}
+
+pub noted_change : (old new : ℕ) (m : Noted) → (old ≡ new → ⊥) → IsNoted (old ∷ []) (new ∷ []) m (record m { dropped = m.dropped ++ nonzero (old ∷ []); added = m.added ++ nonzero (new ∷ []) })
+noted_change old new m other = record {
+  settles = settles_change (old ∷ []) (new ∷ []) m;
+  added = λ b. omega (arith, times-append b m.added (nonzero (new ∷ [])), cond_other new old 0 (refs b (new ∷ [])) (λ e. other (sym e)));
+  pages = refl;
+  free = refl;
+}
+
+length_take_same : (xs ys : List ℕ) (i : ℕ) → i < length xs → i < length ys → length (take i xs) ≡ length (take i ys)
+length_take_same xs ys zero lt lt' = refl
+length_take_same [] ys (suc i) lt lt' = absurd (omega (arith, lt))
+length_take_same (x ∷ xs) [] (suc i) lt lt' = absurd (omega (arith, lt'))
+length_take_same (x ∷ xs) (y ∷ ys) (suc i) lt lt' = ap suc (length_take_same xs ys i (omega (arith, lt)) (omega (arith, lt')))
 
 pub noted_more : (xs ys : List ℕ) (i : ℕ) {m n o : Noted} → i < length xs → i < length ys
     → IsNoted (take i xs) (take i ys) m n → IsNoted (get_or xs i 0 ∷ []) (get_or ys i 0 ∷ []) n o → IsNoted (take (i + 1) xs) (take (i + 1) ys) m o
 noted_more xs ys i {m = m} {o = o} lt lt' first second =
+    let long : length (take i xs) ≡ length (take i ys) = length_take_same xs ys i lt lt' in
     let s : Settles (take i xs ++ get_or xs i 0 ∷ []) (take i ys ++ get_or ys i 0 ∷ []) m o = settles_beside first.settles second.settles in
-    record { settles = rw (take_more xs i 0 lt, take_more ys i 0 lt') s; pages = second.pages ∙ first.pages }
+    let more : (b : ℕ) → times b o.added ≡ times b m.added + brought b (take i xs ++ get_or xs i 0 ∷ []) (take i ys ++ get_or ys i 0 ∷ []) =
+    λ b. omega (arith, first.added b, second.added b, brought-append b (take i xs) (take i ys) (get_or xs i 0 ∷ []) (get_or ys i 0 ∷ []) long) in
+    record {
+      settles = rw (take_more xs i 0 lt, take_more ys i 0 lt') s;
+      added = λ b. more b ∙ ap (λ (t : List ℕ × List ℕ). times b m.added + brought b t.0 t.1) (λ k. (sym (take_more xs i 0 lt) k, sym (take_more ys i 0 lt') k));
+      pages = second.pages ∙ first.pages;
+      free = second.free ∙ first.free;
+    }
 
 pub all_front : {X : Type 0} (P : X → Type 0) (xs ys : List X) → All P (xs ++ ys) → All P xs
 all_front P xs ys all k d lt = subst P (get_or_append_left xs ys d k lt) (all k d (omega (arith, length-append xs ys)))

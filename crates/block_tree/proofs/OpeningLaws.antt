@@ -9,7 +9,7 @@ use Rattle.block_tree.specs.Root.{block_at}
 use Rattle.place_words.specs.Different.{times}
 use Rattle.block_tree.specs.Edit.{IsLeafBefore}
 use Rattle.block_tree.specs.Leaf.{StaysAt, FullAt, level}
-use Rattle.block_tree.specs.Opened.{Opens, PartsStay, PartsFull, first_of}
+use Rattle.block_tree.specs.Opened.{Opens, first_of}
 use Rattle.block_tree.specs.declared.root.TreeRoot.{TreeRoot}
 use Rattle.std.proofs.lemmas.List.{get_or_past}
 use Rattle.block_tree.proofs.Rise.{index_short}
@@ -68,19 +68,6 @@ first_moved read root leaf e = ap (λ (t : Bool). if t then root.ptr ∷ [] else
 pub first_there : (read : Blocks) (root : TreeRoot) (leaf : ℕ) → 0 < root.height → first_of read root leaf ≡ index_at read leaf
 first_there read root leaf lt = ap (λ (t : Bool). if t then root.ptr ∷ [] else index_at read leaf) (let t : (root.height == 0) ≡ false = grind (arith, nat_tests, lt) in t)
 
--- by other pointers of the leaf 0 that are the same
-pub opens_like : {read : Blocks} {root : TreeRoot} {top : ℕ} {was leaves first other : List ℕ} → SameEntries first other → Opens read root top was leaves first → Opens read root top was leaves other
-opens_like same opened = record {
-  first_places = λ i lt. sym (same.each i) ∙ opened.first_places i lt;
-  rest_places = opened.rest_places;
-  top_is = opened.top_is;
-  stay = opened.stay;
-  full = opened.full;
-  few = opened.few;
-  pointers = λ after stays b. omega (arith, opened.pointers after stays b, ap (λ (v : List ℕ). times b v) same.some);
-  indexes = opened.indexes;
-}
-
 module _ (read : Blocks) (ptr : ℕ) (n m : ℕ) where
   abbrev none : List ℕ
   none = replicate n 0
@@ -92,6 +79,8 @@ module _ (read : Blocks) (ptr : ℕ) (n m : ℕ) where
   opens_block =
       let root : TreeRoot = record { height = 0; ptr = ptr } in
       record {
+        blocks = λ j lt. zero_in n j;
+        tops = λ two. absurd (omega (arith, two));
         first_places = leaf_places read root 0 (ptr ∷ []) (λ i. refl);
         rest_places = λ j some lt. leaf_places read root j (index_at read (slice_index none j)) (λ i.
             ap (λ (t : ℕ). slice_index (index_at read t) i) (zero_in n j) ∙ ap (λ (v : List ℕ). slice_index v i) (no_leaf (ptr ∷ []) j some));
@@ -108,6 +97,8 @@ module _ (read : Blocks) (ptr : ℕ) (n m : ℕ) where
   opens_leaf =
       let root : TreeRoot = record { height = 1; ptr = ptr } in
       record {
+        blocks = λ j lt. one_at j;
+        tops = λ two. absurd (omega (arith, two));
         first_places = leaf_places read root 0 (index_at read ptr) (λ i. refl);
         rest_places = λ j some lt. leaf_places read root j (index_at read (slice_index one j)) (λ i.
             ap (λ (t : ℕ). slice_index (index_at read t) i) (past j some) ∙ ap (λ (v : List ℕ). slice_index v i) (no_leaf (index_at read ptr) j some));
@@ -127,6 +118,10 @@ module _ (read : Blocks) (ptr : ℕ) (n m : ℕ) where
         indexes = λ b. omega (arith, ap (λ (v : List ℕ). times b v) (nonzero_one ptr m));
       }
     where
+      one_at : (j : ℕ) → slice_index one j ≡ (if j == 0 then ptr else 0)
+      one_at zero = sym (cond_same 0 0 ptr 0 refl)
+      one_at (suc j) = zero_in m j ∙ sym (cond_other (suc j) 0 ptr 0 (λ e. omega (arith, e)))
+
       past : (j : ℕ) → 1 ≤ j → slice_index one j ≡ 0
       past zero some = absurd (omega (arith, some))
       past (suc j) some = zero_in m j
@@ -141,6 +136,8 @@ opens_top read ptr was same =
     let root : TreeRoot = record { height = 2; ptr = ptr } in
     let tops = index_at read ptr in
     record {
+      blocks = λ j lt. sym (same.each j);
+      tops = λ two. (refl, λ j. sym (same.each j));
       first_places = leaf_places read root 0 (index_at read (slice_index was 0)) (λ i. ap (λ (t : ℕ). slice_index (index_at read t) i) (sym (same.each 0)));
       rest_places = λ j some lt. leaf_places read root j (index_at read (slice_index was j)) (λ i. ap (λ (t : ℕ). slice_index (index_at read t) i) (sym (same.each j)));
       top_is = λ after stays some. subst (λ (v : List ℕ). SameEntries v was) (sym (index_stays read after ptr stays.0)) same;

@@ -1,5 +1,5 @@
 -- A tree by its parts, and as a whole.
-use Rattle.std.proofs.Common.{◌≡◌, ◌≢◌, ◌<◌, ◌≤◌, ℕ, zero, suc, ◌+◌, ◌==◌, Bool, true, false, cond, List, [], ◌∷◌, ◌++◌, length, map, refl, ap, sym, subst, ◌∙◌, arith}
+use Rattle.std.proofs.Common.{◌≡◌, ◌≢◌, ◌<◌, ℕ, zero, suc, ◌+◌, ◌==◌, Bool, true, false, cond, List, [], ◌∷◌, ◌++◌, length, map, refl, ap, sym, subst, ◌∙◌, arith}
 use Rattle.std.specs.Prelude.{slice_index, not, ◌&&◌}
 use Rattle.std.specs.List.{list_all, flat_map, AllByRecursion}
 use Rattle.std.proofs.lemmas.List.{length-append, map-append}
@@ -13,7 +13,6 @@ use Rattle.block_tree.specs.declared.root.TreeRoot.{TreeRoot}
 use Rattle.block_tree.proofs.Count.{index_count}
 use Rattle.block_tree.specs.Tree.{Blocks, index_at, nonzero, pairs_from, leaves_pairs, pairs_below, indexes_below, pointers_below, IsFull}
 use Rattle.block_tree.specs.Parts.{pointers_under}
-use Rattle.block_tree.specs.Leaf.{StaysAt, FullAt}
 use Rattle.block_tree.specs.Opened.{StaysUnder, FullUnder}
 
 -- what holds of each pointer that leads to a block

@@ -1,27 +1,20 @@
 -- Which edits of a leaf need a fresh block.
-use Rattle.std.proofs.Common.{◌≡◌, ◌<◌, ◌≤◌, ℕ, zero, suc, ◌+◌, ◌-◌, ◌*◌, ◌/◌, ◌==◌, Bool, true, false, List, [], ◌∷◌, length, refl, ap, sym, ◌∙◌, arith, ⊎_elim}
+use Rattle.std.proofs.Common.{◌≡◌, ◌<◌, ◌≤◌, ℕ, zero, suc, ◌+◌, ◌-◌, ◌*◌, ◌/◌, ◌==◌, Bool, true, false, List, [], length, refl, ap, sym, ◌∙◌, arith, ⊎_elim}
 use Rattle.std.specs.Prelude.{slice_index}
 use Rattle.std.proofs.lemmas.Bool.{cases_lt}
 use Rattle.std.proofs.lemmas.Bool.Decides.{nat_tests}
 use Rattle.vol_numbers.specs.declared.runs.Change.{Change}
 use Rattle.place_words.specs.Different.{is_among}
 use Rattle.block_tree.specs.Tree.{nonzero}
-use Rattle.block_tree.specs.Edit.{cut_at, leaves_of, IsLeafBefore, IsEdit}
+use Rattle.block_tree.specs.Edit.{cut_at, leaves_of, portion, IsEdit}
 use Rattle.block_tree.specs.Renewal.{NeedsBlock}
 use Rattle.block_tree.specs.Room.{one_if, leaf_room}
 use Rattle.block_tree.proofs.EditLaws.{changed_elsewhere, kept_below, cut_off}
+use Rattle.block_tree.proofs.EntryLaws.{same_list}
+use Rattle.block_tree.proofs.PortionLaws.{portion_none}
 use Rattle.block_tree.proofs.LeafLaws.{zeros_lead_nowhere}
 
-same_list : (xs ys : List ℕ) → length xs ≡ length ys → ((i : ℕ) → i < length xs → slice_index xs i ≡ slice_index ys i) → xs ≡ ys
-same_list [] [] long each = refl
-same_list [] (y ∷ ys) long each = absurd (omega (arith, long))
-same_list (x ∷ xs) [] long each = absurd (omega (arith, long))
-same_list (x ∷ xs) (y ∷ ys) long each =
-    let head : x ≡ y = each 0 (omega arith) in
-    let rest = same_list xs ys (omega (arith, long)) (λ i lt. each (suc i) (omega arith)) in
-    λ t. head t ∷ rest t
-
-module _ (changes : List Change) (cut k : ℕ) (was ptrs : List ℕ) (edits : IsEdit changes cut k was ptrs) (none : is_among (leaves_of changes) k ≡ false) (long : length ptrs ≡ 1024) where
+module _ (changes : List Change) (cut k : ℕ) (was ptrs : List ℕ) (edits : IsEdit changes cut k was ptrs) (none : portion k changes ≡ []) (long : length ptrs ≡ 1024) where
   -- the map of the leaf alone
   is_old : (i : ℕ) → i < 1024 → slice_index was i ≡ slice_index was (1024 * k + i - 1024 * k)
   is_old i lt = let e : i ≡ 1024 * k + i - 1024 * k = omega arith in ap (λ (j : ℕ). slice_index was j) e
@@ -53,8 +46,8 @@ needs_room changes cut k leaf was ptrs edits as_long long hole needs = by (is_am
     by false false a b =
         let other : k ≡ cut / 1024 → ⊥ = λ e. grind (arith, nat_tests, b, e) in
         absurd (⊎_elim
-        (λ below. unneeded leaf refl (edit_keeps changes cut k was ptrs edits a long as_long (omega (arith, below))))
-        (λ past. needs.some (edit_drops changes cut k was ptrs edits a long (omega (arith, past, other))))
+        (λ below. unneeded leaf refl (edit_keeps changes cut k was ptrs edits (portion_none k changes a) long as_long (omega (arith, below))))
+        (λ past. needs.some (edit_drops changes cut k was ptrs edits (portion_none k changes a) long (omega (arith, past, other))))
         (cases_lt k (cut / 1024)))
 
 -- what is taken at most, where nothing is taken without need

@@ -1,18 +1,28 @@
 -- What a rewriting notes.
-use Rattle.std.specs.Prelude.{◌≡◌, ◌≢◌, ◌<◌, ◌⊎◌, true, slice_index, ℕ, ◌+◌, List, [], ◌++◌, map, All}
+use Rattle.std.specs.Prelude.{◌≡◌, ◌≤◌, ℕ, ◌+◌, ◌-◌, ◌==◌, if◌then◌else◌, List, [], ◌∷◌, ◌++◌, map, All}
+use Rattle.vol_numbers.specs.Layout.{Layout}
 use Rattle.vol_numbers.specs.declared.runs.Page.{Page}
-use Rattle.block_tree.specs.Tree.{Blocks, nonzero}
-use Rattle.place_words.specs.Different.{times, is_among}
 use Rattle.vol_numbers.specs.declared.runs.Change.{Change}
+use Rattle.block_format.specs.Index.{IsPointer}
+use Rattle.block_tree.specs.Tree.{Blocks, nonzero}
+use Rattle.block_tree.specs.Pages.{IsIndexPage}
+use Rattle.block_tree.specs.Edit.{portion}
+use Rattle.block_tree.specs.declared.plan.Rewritten.{Rewritten}
+use Rattle.place_words.specs.Different.{times, total, span}
 
--- the pages to be written, and the pointers that come and that go, with repeats
+-- the free blocks that are left, the pages to be written, and the pointers that come and that go, with repeats
 pub record Noted : Type 0 where
+  pub free : List ℕ
   pub pages : List Page
   pub added : List ℕ
   pub dropped : List ℕ
 
-abbrev pub no_notes : Noted
-no_notes = record { pages = []; added = []; dropped = [] }
+abbrev pub no_notes : List ℕ → Noted
+no_notes free = record { free = free; pages = []; added = []; dropped = [] }
+
+-- what a plan has, and the free blocks that are left
+abbrev pub notes_in : Rewritten → List ℕ → Noted
+notes_in w free = record { free = free; pages = w.pages; added = w.added; dropped = w.dropped }
 
 -- the blocks that the pages are for
 abbrev pub page_blocks : List Page → List ℕ
@@ -35,27 +45,33 @@ pub record Settles (before after : List ℕ) (m n : Noted) : Type 0 where
   pub each : (b : ℕ) → times b (nonzero before) + times b n.added + times b m.dropped ≡ times b (nonzero after) + times b m.added + times b n.dropped
 
 -- The blocks of new pages are taken from the free ones, in order, and no page is lost.
-pub record Takes (free left : List ℕ) (m n : Noted) : Type 0 where
-  pub in_order : page_blocks n.pages ++ left ≡ page_blocks m.pages ++ free
+pub record Takes (m n : Noted) : Type 0 where
+  pub in_order : page_blocks n.pages ++ n.free ≡ page_blocks m.pages ++ m.free
   pub grows : (read : Blocks) → Stand n.pages read → Stand m.pages read
 
 -- the blocks of changes
 abbrev pub change_blocks : List Change → List ℕ
 change_blocks changes = map (λ (c : Change). c.block) changes
 
--- What is added besides is the block of a page or of a change. No page is lost.
-pub record Sourced (changes : List Change) (m n : Noted) : Type 0 where
-  pub pages : (b : ℕ) → is_among (page_blocks m.pages) b ≡ true → is_among (page_blocks n.pages) b ≡ true
-  pub added : (b : ℕ) → is_among n.added b ≡ true → (is_among m.added b ≡ true) ⊎ ((is_among (page_blocks n.pages) b ≡ true) ⊎ (is_among (change_blocks changes) b ≡ true))
+-- What is added besides is, number by number, the block of a new page or of a change.
+pub record Uses (changes : List Change) (m n : Noted) : Type 0 where
+  pub each : (b : ℕ) → times b n.added + paged b m ≤ times b m.added + paged b n + times b (change_blocks changes)
 
--- Below one place, the new pointers have this block where the old ones have another.
-pub record IsNewIn (end : ℕ) (was ptrs : List ℕ) (b : ℕ) : Type 0 where
-  pub place : ℕ
-  pub below : place < end
-  pub new : slice_index ptrs place ≡ b
-  pub other : slice_index was place ≢ b
-  pub some : 0 < b
+-- how often a block is that of a change in one of the leaves from one on and below another
+abbrev pub leaves_use : ℕ → List Change → ℕ → ℕ → ℕ
+leaves_use b changes k end = total (λ j. times b (change_blocks (portion j changes))) (span k (end - k))
 
--- What is added besides is new among these pointers.
-pub record AddsNew (end : ℕ) (was ptrs : List ℕ) (m n : Noted) : Type 0 where
-  pub added : (b : ℕ) → is_among n.added b ≡ true → (is_among m.added b ≡ true) ⊎ IsNewIn end was ptrs b
+-- The same of the changes in the leaves from 1 up to one.
+pub record LeavesUse (changes : List Change) (end : ℕ) (m n : Noted) : Type 0 where
+  pub each : (b : ℕ) → times b n.added + paged b m ≤ times b m.added + paged b n + leaves_use b changes 1 end
+
+-- how often, place by place, there is a pointer to a block where there was another one
+abbrev pub brought : ℕ → List ℕ → List ℕ → ℕ
+brought b [] ptrs = 0
+brought b (w ∷ was) [] = 0
+brought b (w ∷ was) (p ∷ ptrs) = (if p == w then 0 else refs b (p ∷ [])) + brought b was ptrs
+
+-- Each page is in the grammar of an index block, and each free block is one of the area.
+pub record AreSound (g : Layout) (n : Noted) : Type 0 where
+  pub pages : All (IsIndexPage g) n.pages
+  pub free : All (IsPointer g) n.free

@@ -23,6 +23,12 @@ block_below read zero ptr place = if place == 0 then ptr else 0
 block_below read (suc zero) ptr place = slice_index (index_at read ptr) place
 block_below read (suc (suc height)) ptr place = slice_index (index_at read (slice_index (index_at read ptr) (place / 1024))) (place % 1024)
 
+-- the block of the leaf k, 0 where there is none
+abbrev pub leaf_below : Blocks → ℕ → ℕ → ℕ → ℕ
+leaf_below read zero ptr k = 0
+leaf_below read (suc zero) ptr k = if k == 0 then ptr else 0
+leaf_below read (suc (suc height)) ptr k = slice_index (index_at read ptr) k
+
 -- ---- the same as lists
 
 -- the pointers that lead to blocks

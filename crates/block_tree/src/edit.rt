@@ -1,19 +1,34 @@
 //! What a cut and changes make of a leaf.
-ghost use Rattle.std.specs.Prelude.{◌≡◌, ◌<◌, ◌+◌, ◌*◌, ℕ, nat_lt, if◌then◌else◌, length, slice_index};
-ghost use Rattle.place_words.specs.Different.{is_among};
-ghost use Rattle.block_tree.specs.Edit.{cut_at, with_changes, leaves_of, IsEdit};
+ghost use Rattle.std.specs.Prelude.{◌≡◌, ◌<◌, ◌≤◌, ◌+◌, ◌*◌, ℕ, List, All, nat_lt, if◌then◌else◌, length, slice_index};
+ghost use Rattle.vol_numbers.specs.Layout.{Layout};
+ghost use Rattle.vol_numbers.specs.declared.runs.Change.{Change as ChangeOf};
+ghost use Rattle.place_words.specs.Different.{times};
+ghost use Rattle.block_format.specs.Index.{IsPointer};
+ghost use Rattle.block_tree.specs.Notes.{brought, change_blocks};
+ghost use Rattle.block_tree.specs.Pages.{LeadInto};
+ghost use Rattle.block_tree.specs.Edit.{cut_at, with_changes, portion, IsEdit};
 
 use block_format::Index;
 use vol_numbers::{BlockNo, Change, Fbn};
 
-/// The pointers of the leaf k after a cut and then changes.
-pub(crate) fn edited(was: &Index, k: u32, cut_to: Fbn, changes: &[Change]) -> Index
+/// What a tree is to be: its places from `cut_to` on are dropped, the changes are made, which stand in the order of their leaves, and it has this height then.
+#[derive(Clone, Copy)]
+pub(crate) struct Edit<'a> {
+    pub(crate) cut_to: Fbn,
+    pub(crate) changes: &'a [Change],
+    pub(crate) height: u32,
+}
+
+/// The pointers of the leaf k after a cut and then the changes in it.
+pub(crate) fn edited(was: &Index, k: u32, cut_to: Fbn, part: &[Change]) -> Index
     requires { k < 1024 }
-    ensures { IsEdit changes.now cut_to k was.now.ptrs result.ptrs }
+    ensures edit { (changes : List ChangeOf) → part.now ≡ portion k changes → IsEdit changes cut_to k was.now.ptrs result.ptrs }
+    ensures brings { (b : ℕ) → brought b was.now.ptrs result.ptrs ≤ times b (change_blocks part.now) }
+    ensures pointers { (g : Layout) → All (IsPointer g) was.now.ptrs → LeadInto g part.now → All (IsPointer g) result.ptrs }
 {
     let mut index = *was;
     cut_entries(&mut index.ptrs, 1_024 * k, cut_to);
-    put_changes(&mut index.ptrs, k, changes);
+    put_changes(&mut index.ptrs, part);
     index
 }
 
@@ -35,26 +50,12 @@ fn kept(ptr: BlockNo, place: Fbn, cut_to: Fbn) -> BlockNo
     if place < cut_to { ptr } else { 0 }
 }
 
-/// Makes the changes of the places of the leaf k.
-fn put_changes(ptrs: &mut [u32], k: u32, changes: &[Change])
+/// Makes the changes of places of one leaf.
+fn put_changes(ptrs: &mut [u32], part: &[Change])
     requires { length ptrs.old ≡ 1024 }
-    ensures { ptrs.new ≡ with_changes k changes.now ptrs.old }
+    ensures { ptrs.new ≡ with_changes part.now ptrs.old }
 {
-    for change in changes {
-        if change.place / 1_024 == k {
-            ptrs[(change.place % 1_024) as usize] = change.block;
-        }
+    for change in part {
+        ptrs[(change.place % 1_024) as usize] = change.block;
     }
-}
-
-/// Whether one of these changes is of a place of the leaf k.
-pub(crate) fn is_changed(k: u32, changes: &[Change]) -> bool
-    ensures { result ≡ is_among (leaves_of changes.now) k }
-{
-    for change in changes {
-        if change.place / 1_024 == k {
-            return true;
-        }
-    }
-    false
 }

@@ -10,6 +10,7 @@ mod looking;
 mod notes;
 mod opening;
 mod plan;
+mod portion;
 mod renewal;
 mod rewriting;
 mod root;

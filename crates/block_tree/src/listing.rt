@@ -32,38 +32,38 @@ pub fn pointers<D: Disk>(
     ensures fixed { D.fixed disk.new ≡ D.fixed disk.old }
     ensures cause { HasTreeCause (D.faults disk.old) (D.faults disk.new) result }
 {
-    let list = list_pointers(alloc, disk, g, root)?;
-    Ok(list)
+    let mut out = Vec::new(alloc);
+    push_tree(disk, g, root, &mut out)?;
+    Ok(PointerList::from_vec(out))
 }
 
-/// The same, level by level.
-fn list_pointers<D: Disk>(
-    alloc: Global,
+/// The pointers of a tree, level by level.
+fn push_tree<D: Disk>(
     disk: &mut D,
     g: &Geometry,
     root: &TreeRoot,
-) -> Result<PointerList, TreeFault>
+    out: &mut Vec<BlockNo>,
+) -> Result<(), TreeFault>
     requires size { (layout_of g.now).blocks ≡ (D.fixed disk.old).size }
     requires root { IsRoot (layout_of g.now) root.now }
-    ensures pointers { IfOk result (λ ptrs. IsTrue D.tells → ptrs ≡ nonzero (all_pointers (blocks_in (D.state disk.old).contents) root.now)) }
+    ensures pushed { OnOk result (IsTrue D.tells → out.new.items ≡ out.old.items ++ nonzero (all_pointers (blocks_in (D.state disk.old).contents) root.now)) }
     ensures damaged { IsTreeDamage (layout_of g.now) D.tells (blocks_in (D.state disk.new).contents) (D.given disk.old) (D.given disk.new) result }
     ensures same { IsTrue D.tells → D.state disk.new ≡ D.state disk.old }
     ensures moments { IsTrue D.tells → Adds (D.past disk.old) (D.past disk.new) (λ s. s ≡ D.state disk.old) }
     ensures fixed { D.fixed disk.new ≡ D.fixed disk.old }
     ensures cause { HasTreeCause (D.faults disk.old) (D.faults disk.new) result }
 {
-    let mut out = Vec::new(alloc);
-    push_one(&mut out, root.ptr)?;
+    push_one(out, root.ptr)?;
     if root.height == 0 {
-        return Ok(PointerList::from_vec(out));
+        return Ok(());
     }
     let top = entries(disk, g, root.ptr)?;
-    push_all(&mut out, &top.ptrs)?;
+    push_all(out, &top.ptrs)?;
     if root.height == 1 {
-        return Ok(PointerList::from_vec(out));
+        return Ok(());
     }
-    push_leaves(disk, g, &top, &mut out)?;
-    Ok(PointerList::from_vec(out))
+    push_leaves(disk, g, &top, out)?;
+    Ok(())
 }
 
 /// The pointers of some leaves.

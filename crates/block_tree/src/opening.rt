@@ -33,6 +33,7 @@ pub(crate) fn open_tree<D: Disk>(
     requires root { IsRoot (layout_of g.now) root.now }
     ensures opened { IfOk result (λ o. IsTrue D.tells → Opens (blocks_in (D.state disk.old).contents) root.now o.top o.was.ptrs o.leaves.ptrs (first_of (blocks_in (D.state disk.old).contents) root.now (slice_index o.leaves.ptrs 0))) }
     ensures leaves { IfOk result (λ o. All (IsPointer (layout_of g.now)) o.leaves.ptrs) }
+    ensures top { IfOk result (λ o. IsPointer (layout_of g.now) o.top) }
     ensures hole { IfOk result (λ o. root.now.height ≡ 0 → slice_index o.leaves.ptrs 0 ≡ 0) }
     ensures damaged { IsLookDamage (layout_of g.now) D.tells (blocks_in (D.state disk.new).contents) (D.given disk.old) (D.given disk.new) result }
     ensures same { IsTrue D.tells → D.state disk.new ≡ D.state disk.old }
@@ -70,7 +71,9 @@ pub(crate) fn first_pointers<D: Disk>(
     leaf: BlockNo,
 ) -> Result<Index, LookFault>
     requires size { (layout_of g.now).blocks ≡ (D.fixed disk.old).size }
+    requires root { IsPointer (layout_of g.now) root.now.ptr }
     requires leaf { IsPointer (layout_of g.now) leaf }
+    ensures pointers { IfOk result (λ index. All (IsPointer (layout_of g.now)) index.ptrs) }
     ensures entries { IfOk result (λ index. IsTrue D.tells → SameEntries (first_of (blocks_in (D.state disk.old).contents) root.now leaf) index.ptrs) }
     ensures damaged { IsLookDamage (layout_of g.now) D.tells (blocks_in (D.state disk.new).contents) (D.given disk.old) (D.given disk.new) result }
     ensures same { IsTrue D.tells → D.state disk.new ≡ D.state disk.old }

@@ -1,18 +1,23 @@
 //! Plans how a tree is rewritten.
-ghost use Rattle.std.specs.Prelude.{◌≡◌, ◌<◌, ◌≤◌, ◌+◌, ◌++◌, ◌^◌, ◌⊎◌, true, ℕ, All, length, map, IfOk, OnErr, IsTrue};
+ghost use Rattle.std.specs.Prelude.{◌≡◌, ◌<◌, ◌≤◌, ◌+◌, ◌++◌, ◌^◌, ◌⊎◌, true, false, ℕ, All, length, map, IfOk, OnErr, IsTrue};
 ghost use Rattle.vol_numbers.specs.Geometry.{layout_of};
 ghost use Rattle.vol_numbers.specs.declared.runs.Change.{Change as ChangeOf};
 ghost use Rattle.disk_model.specs.Past.{Adds};
 ghost use Rattle.place_words.specs.Different.{times, different, is_among};
 ghost use Rattle.place_words.specs.Index.{index_blocks};
+ghost use Rattle.block_format.specs.Index.{IsPointer};
 ghost use Rattle.block_format.specs.Inode.{blocks_of, height_of};
 ghost use Rattle.block_tree.specs.Tree.{Blocks, blocks_in, IsFull};
-ghost use Rattle.block_tree.specs.Root.{block_at, tree_pairs, tree_indexes, tree_pointers, IsRoot, Stays};
-ghost use Rattle.block_tree.specs.Notes.{Stand, page_blocks, change_blocks};
-ghost use Rattle.block_tree.specs.Edit.{cut_at, changed_at, leaves_of};
+ghost use Rattle.block_tree.specs.Root.{block_at, leaf_at, tree_pairs, tree_indexes, tree_pointers, IsRoot, Stays, KeepsTop};
+ghost use Rattle.block_tree.specs.Notes.{Stand, Uses, no_notes, notes_in, page_blocks, change_blocks};
+ghost use Rattle.block_tree.specs.Opened.{FitsHeight, ChangesFit, IsTreeRewritten};
+ghost use Rattle.block_tree.specs.Pages.{IsIndexPage, LeadInto};
+ghost use Rattle.block_tree.specs.Edit.{cut_at, changed_at, leaves_of, AreInOrder, KeepsLeaf};
 ghost use Rattle.block_tree.specs.Causes.{HasTreeCause, IsTreeDamage};
 
+use crate::edit::Edit;
 use crate::notes::Notes;
+use crate::portion::by_leaf;
 use crate::rewriting::rewrite_tree;
 use crate::{TreeFault, TreeRoot};
 use block_format::{blocks_of, height_of, heights_are_least};
@@ -62,6 +67,19 @@ pub fn rewrite<D: Disk>(
     // Each of its index blocks is one of the old tree or a page's.
     ensures indexes { IfOk result (λ w. IsTrue D.tells → (after : Blocks) → Stand w.pages after → Stays (blocks_in (D.state disk.old).contents) root.now after
         → (b : ℕ) → times b (tree_indexes after w.root) ≤ times b (tree_indexes (blocks_in (D.state disk.old).contents) root.now) + times b (page_blocks w.pages)) }
+    // A leaf whose places have the blocks that they had keeps its block, where a leaf is left,
+    ensures kept { IfOk result (λ w. IsTrue D.tells → (after : Blocks) → Stand w.pages after → Stays (blocks_in (D.state disk.old).contents) root.now after → 1 ≤ w.root.height → (k : ℕ) → k < 1024
+        → KeepsLeaf changes.now cut_to (block_at (blocks_in (D.state disk.old).contents) root.now) k (leaf_at (blocks_in (D.state disk.old).contents) root.now k) (leaf_at after w.root k)) }
+    // and a top index whose leaves have the blocks that they had keeps its own.
+    ensures kept_top { IfOk result (λ w. IsTrue D.tells → (after : Blocks) → Stand w.pages after → Stays (blocks_in (D.state disk.old).contents) root.now after
+        → KeepsTop (blocks_in (D.state disk.old).contents) root.now after w.root) }
+    // A block that isn't free is no page's.
+    ensures apart { IfOk result (λ w. (b : ℕ) → is_among free.old b ≡ false → is_among (page_blocks w.pages) b ≡ false) }
+    // Where the changes and the free blocks lead nowhere or into the area, each page is in the grammar, and the root may be handed in again.
+    ensures written { IfOk result (λ w. LeadInto (layout_of g.now) changes.now → All (IsPointer (layout_of g.now)) free.old → All (IsIndexPage (layout_of g.now)) w.pages) }
+    ensures begins { IfOk result (λ w. LeadInto (layout_of g.now) changes.now → All (IsPointer (layout_of g.now)) free.old → IsRoot (layout_of g.now) w.root) }
+    // Each added block is, number by number, a page's or a change's.
+    ensures used { IfOk result (λ w. (b : ℕ) → times b w.added ≤ times b (page_blocks w.pages) + times b (change_blocks changes.now)) }
     // Each added block is a page's or a change's.
     ensures added { IfOk result (λ w. IsTrue D.tells → (b : ℕ) → is_among w.added b ≡ true → (is_among (page_blocks w.pages) b ≡ true) ⊎ (is_among (change_blocks changes.now) b ≡ true)) }
     ensures taken { IfOk result (λ w. page_blocks w.pages ++ free.new ≡ free.old) }
@@ -73,21 +91,47 @@ pub fn rewrite<D: Disk>(
     ensures fixed { D.fixed disk.new ≡ D.fixed disk.old }
     ensures cause { HasTreeCause (D.faults disk.old) (D.faults disk.new) result }
 {
-    let mut trial = free.copy()?;
-    let mut notes = Notes::new(alloc);
-    let height = height_for(size);
-    let root = rewrite_tree(
-        disk,
-        g,
-        root,
+    let sorted = by_leaf(alloc, changes)?;
+    let edit = Edit {
         cut_to,
-        changes.as_slice(),
-        height,
-        &mut trial,
-        &mut notes,
-    )?;
-    *free = trial;
-    Ok(notes.into_rewritten(root))
+        changes: sorted.as_slice(),
+        height: height_for(size),
+    };
+    let made = rewrite_in_order(alloc, disk, g, root, &edit, free)?;
+    Ok(made)
+}
+
+/// The same by changes in the order of their leaves.
+fn rewrite_in_order<D: Disk>(
+    alloc: Global,
+    disk: &mut D,
+    g: &Geometry,
+    root: &TreeRoot,
+    edit: &Edit<'_>,
+    free: &mut FreeMap,
+) -> Result<Rewritten, TreeFault>
+    requires size { (layout_of g.now).blocks ≡ (D.fixed disk.old).size }
+    requires root { IsRoot (layout_of g.now) root.now }
+    requires height { edit.now.height ≤ 2 }
+    requires changes { ChangesFit edit.now.height edit.now.changes.now }
+    requires order { AreInOrder edit.now.changes.now }
+    requires fits { IsTrue D.tells → FitsHeight (blocks_in (D.state disk.old).contents) root.now edit.now.cut_to edit.now.height }
+    requires free { different (leaves_of edit.now.changes.now) + 3 ≤ length free.old }
+    ensures rewritten { IfOk result (λ w. IsTrue D.tells → IsTreeRewritten (blocks_in (D.state disk.old).contents) root.now edit.now.changes.now edit.now.cut_to w.root (no_notes free.old) (notes_in w free.new)) }
+    ensures height { IfOk result (λ w. w.root.height ≡ edit.now.height) }
+    ensures taken { IfOk result (λ w. page_blocks w.pages ++ free.new ≡ free.old) }
+    ensures used { IfOk result (λ w. Uses edit.now.changes.now (no_notes free.old) (notes_in w free.new)) }
+    ensures sound { IfOk result (λ w. LeadInto (layout_of g.now) edit.now.changes.now → All (IsPointer (layout_of g.now)) free.old → All (IsIndexPage (layout_of g.now)) w.pages × IsPointer (layout_of g.now) w.root.ptr) }
+    ensures unchanged { OnErr result (free.new ≡ free.old) }
+    ensures damaged { IsTreeDamage (layout_of g.now) D.tells (blocks_in (D.state disk.new).contents) (D.given disk.old) (D.given disk.new) result }
+    ensures same { IsTrue D.tells → D.state disk.new ≡ D.state disk.old }
+    ensures moments { IsTrue D.tells → Adds (D.past disk.old) (D.past disk.new) (λ s. s ≡ D.state disk.old) }
+    ensures fixed { D.fixed disk.new ≡ D.fixed disk.old }
+    ensures cause { HasTreeCause (D.faults disk.old) (D.faults disk.new) result }
+{
+    let mut notes = Notes::new(alloc, free.copy()?);
+    let new = rewrite_tree(disk, g, root, edit, &mut notes)?;
+    Ok(notes.into_rewritten(new, free))
 }
 
 /// The height of a tree of so many bytes.

@@ -1,14 +1,12 @@
 //! Index blocks that are written afresh where they change.
-ghost use Rattle.std.specs.Prelude.{◌≡◌, ◌≢◌, ◌≤◌, ◌<◌, ◌↔◌, ◌⊎◌, true, ℕ, [], ◌∷◌, List, length, IfOk, OnOk, IsTrue};
+ghost use Rattle.std.specs.Prelude.{◌≡◌, ◌≤◌, ◌<◌, ◌↔◌, [], ◌∷◌, length, IfOk, OnOk, IsTrue};
+ghost use Rattle.block_format.specs.Index.{index_bytes};
 ghost use Rattle.block_format.specs.Words.{words};
 ghost use Rattle.block_tree.specs.Tree.{nonzero};
-ghost use Rattle.place_words.specs.Different.{is_among};
-ghost use Rattle.block_tree.specs.Notes.{AddsNew};
 ghost use Rattle.block_tree.specs.Renewal.{IsRenewed, IsNoted, NeedsBlock};
 
 use crate::notes::Notes;
 use block_format::{Index, write_index};
-use run_allocator::FreeMap;
 use std::alloc::AllocError;
 use vol_numbers::{Block, BlockNo};
 
@@ -17,11 +15,10 @@ pub(crate) fn renew(
     old: BlockNo,
     was: &Index,
     index: &Index,
-    free: &mut FreeMap,
     notes: &mut Notes,
 ) -> Result<BlockNo, AllocError>
-    requires { NeedsBlock old was.now.ptrs index.now.ptrs → 1 ≤ length free.old }
-    ensures { IfOk result (λ new. IsRenewed old was.now.ptrs index.now.ptrs new free.old free.new notes.old notes.new) }
+    requires { NeedsBlock old was.now.ptrs index.now.ptrs → 1 ≤ length notes.old.free }
+    ensures { IfOk result (λ new. IsRenewed old was.now.ptrs index.now.ptrs new notes.old notes.new) }
 {
     if leads_nowhere(&index.ptrs) {
         notes.remove(old)?;
@@ -31,9 +28,7 @@ pub(crate) fn renew(
         return Ok(old);
     }
     notes.remove(old)?;
-    let at = free.take_one();
-    notes.add(at)?;
-    notes.write(at, spelled(index))?;
+    let at = notes.write(spelled(index))?;
     Ok(at)
 }
 
@@ -58,7 +53,8 @@ fn leads_nowhere(ptrs: &[u32]) -> bool
 
 /// The block that spells these pointers.
 fn spelled(index: &Index) -> Block
-    ensures { words result.bytes ≡ index.now.ptrs }
+    ensures spelled { result.bytes ≡ index_bytes index.now.ptrs }
+    ensures reads_back { words result.bytes ≡ index.now.ptrs }
 {
     let mut block = Block::zero();
     write_index(index, &mut block);
@@ -68,8 +64,7 @@ fn spelled(index: &Index) -> Block
 /// Notes which pointers come and go.
 pub(crate) fn note(was: &[u32], ptrs: &[u32], notes: &mut Notes) -> Result<(), AllocError>
     requires { length was.now ≡ length ptrs.now }
-    ensures noted { OnOk result (IsNoted was.now ptrs.now notes.old notes.new) }
-    ensures added { OnOk result (AddsNew (length was.now) was.now ptrs.now notes.old notes.new) }
+    ensures { OnOk result (IsNoted was.now ptrs.now notes.old notes.new) }
 {
     for (i, old) in was.iter().enumerate() {
         note_one(*old, ptrs[i], notes)?;
@@ -78,8 +73,7 @@ pub(crate) fn note(was: &[u32], ptrs: &[u32], notes: &mut Notes) -> Result<(), A
 }
 
 fn note_one(old: BlockNo, new: BlockNo, notes: &mut Notes) -> Result<(), AllocError>
-    ensures noted { OnOk result (IsNoted (old ∷ []) (new ∷ []) notes.old notes.new) }
-    ensures added { OnOk result ((b : ℕ) → is_among notes.new.added b ≡ true → (is_among notes.old.added b ≡ true) ⊎ ((new ≡ b) × (old ≢ b) × (0 < b))) }
+    ensures { OnOk result (IsNoted (old ∷ []) (new ∷ []) notes.old notes.new) }
 {
     if old == new {
         return Ok(());

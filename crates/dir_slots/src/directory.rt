@@ -10,7 +10,7 @@ use crate::DirFault;
 use crate::holes::{count_above, holes_of, put_hole};
 use crate::order::{gap_for, look_up, order_of};
 use crate::reading::read_slots;
-use crate::slots::{is_used, put_slot, slot_at};
+use crate::slots::{clear_slot, is_used, put_slot, slot_at};
 use block_format::{Slot, write_slot};
 use std::alloc::{AllocError, Global};
 use std::marker::Model;
@@ -134,7 +134,7 @@ impl Directory {
     {
         let found = look_up(&self.slots, &self.order, name)?;
         self.order.remove(found.place);
-        self.slots[found.slot as usize] = Slot::Unused;
+        clear_slot(&mut self.slots, found.slot);
         let place = count_above(&self.holes, found.slot);
         put_hole(&mut self.holes, place, found.slot);
         Some(found.number)

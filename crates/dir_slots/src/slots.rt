@@ -1,5 +1,6 @@
 //! Slots, one by one.
-ghost use Rattle.std.specs.Prelude.{◌≡◌, ◌<◌, ◌≤◌, length, vec_len, vec_capacity};
+ghost use Rattle.std.specs.Prelude.{◌≡◌, ◌<◌, ◌≤◌, length, slice_set, vec_len, vec_capacity};
+ghost use Rattle.block_format.specs.declared.slot.Slot.TheVariants.{Unused};
 ghost use Rattle.dir_slots.specs.Slots.{slot_at, name_of, is_used, with_slot};
 
 use block_format::Slot;
@@ -31,6 +32,14 @@ pub(crate) fn is_used(slot: &Slot) -> bool
         Slot::Unused => false,
         Slot::Entry { .. } => true,
     }
+}
+
+/// Makes a slot unused.
+pub(crate) fn clear_slot(slots: &mut Vec<Slot>, i: u32)
+    requires { i < length slots.old.items }
+    ensures { slots.new.items ≡ slice_set slots.old.items i Unused }
+{
+    slots[i as usize] = Slot::Unused;
 }
 
 /// Puts this into a slot, or behind the last one.

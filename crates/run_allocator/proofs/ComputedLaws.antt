@@ -30,7 +30,7 @@ longer_there x xs s r found e = by_test (nat_lt x.length s.length) e
     by_test true e = (suc found.0, found.1 ∙ e)
     by_test false e = (zero, e)
 
-longest_there : (rs : List Run) (r : Run) → longest rs ≡ Some r → (i : ℕ) × (slice_get rs i ≡ Some r)
+pub longest_there : (rs : List Run) (r : Run) → longest rs ≡ Some r → (i : ℕ) × (slice_get rs i ≡ Some r)
 longest_there [] r e = cc
 longest_there (x ∷ xs) r e = of_rest (longest xs) refl e (λ s is. longest_there xs s is)
   where

@@ -4,3 +4,4 @@ pub mod SearchLaws
 pub mod RuleLaws
 pub mod ZeroLaws
 pub mod ComputedLaws
+pub mod OrderLaws

@@ -11,7 +11,7 @@ use Rattle.run_allocator.specs.Taken.{with_number, runs_of, first_fit, longest, 
 use Rattle.run_allocator.specs.Taken.{AreTaken, done, more}
 use Rattle.run_allocator.specs.Steps.{take_at, IsPiece, IsStep, AreSteps}
 use Rattle.run_allocator.specs.declared.pieces.Piece.{Piece}
-use Rattle.run_allocator.proofs.RunLaws.{apart_lower, length-numbers_from}
+use Rattle.run_allocator.proofs.RunLaws.{apart_lower, at_least, length-numbers_from}
 
 -- the runs of the numbers of runs are these
 with_apart : (b : ℕ) (rs : List Run) → AreApart (b + 2) rs → with_number b rs ≡ record { first = b; length = 1 } ∷ rs
@@ -49,15 +49,18 @@ apart_at least [] i r are e = cc
 apart_at least (x ∷ xs) zero r are e = let same : x ≡ r = cc in (subst (λ (y : Run). 1 ≤ y.length) same are.1, subst (λ (y : Run). y.first + y.length ≤ 65536) same are.2, omega arith)
 apart_at least (x ∷ xs) (suc i) r are e = let rest = apart_at (x.first + x.length + 1) xs i r are.3 e in (rest.0, rest.1, omega (arith, rest.2))
 
-pub none_fits : (n : ℕ) (runs : List Run) (i : ℕ) (r : Run) → first_fit n runs ≡ None → slice_get runs i ≡ Some r → r.length ≤ n
-none_fits n [] i r none e = cc
-none_fits n (x ∷ xs) i r none e = by_test (nat_le n x.length) refl none i e (λ j less. none_fits n xs j r less)
+pub all_shorter : (n : ℕ) (runs : List Run) (i : ℕ) (r : Run) → first_fit n runs ≡ None → slice_get runs i ≡ Some r → r.length < n
+all_shorter n [] i r none e = cc
+all_shorter n (x ∷ xs) i r none e = by_test (nat_le n x.length) refl none i e (λ j less. all_shorter n xs j r less)
   where
     by_test : (t : Bool) → nat_le n x.length ≡ t → (if t then Some x else first_fit n xs) ≡ None → (j : ℕ) → slice_get (x ∷ xs) j ≡ Some r
-        → ((k : ℕ) → first_fit n xs ≡ None → slice_get xs k ≡ Some r → r.length ≤ n) → r.length ≤ n
+        → ((k : ℕ) → first_fit n xs ≡ None → slice_get xs k ≡ Some r → r.length < n) → r.length < n
     by_test true is none j e rest = cc
-    by_test false is none zero e rest = let same : x ≡ r = cc in subst (λ (y : Run). y.length ≤ n) same (let le : x.length ≤ n = grind (arith, nat_tests, is) in le)
+    by_test false is none zero e rest = let same : x ≡ r = cc in subst (λ (y : Run). y.length < n) same (let le : x.length < n = grind (arith, nat_tests, is) in le)
     by_test false is none (suc j) e rest = rest j none e
+
+pub none_fits : (n : ℕ) (runs : List Run) (i : ℕ) (r : Run) → first_fit n runs ≡ None → slice_get runs i ≡ Some r → r.length ≤ n
+none_fits n runs i r none e = omega (arith, all_shorter n runs i r none e)
 
 pub take_at_whole : (runs : List Run) (i : ℕ) (r : Run) (n : ℕ) → slice_get runs i ≡ Some r → n ≡ r.length → take_at runs i n ≡ remove runs i
 take_at_whole [] i r n e same = cc
@@ -144,11 +147,6 @@ front_taken least (x ∷ xs) (suc i) r n are e some le =
     let later : x.first + x.length + 1 ≤ r.first = at_least (x.first + x.length + 1) xs i r are.3 e in
     let head = keep_below x.first x.length (front r n) (omega (arith, later)) in
     (sym (filter-append (λ b. not (covers (front r n) b)) (numbers_from x.first x.length) (numbers_of xs) ∙ (λ z. head z ++ sym rest.0 z)), (are.0, are.1, are.2, rest.1))
-  where
-    at_least : (m : ℕ) (ys : List Run) (j : ℕ) (y : Run) → AreApart m ys → slice_get ys j ≡ Some y → m ≤ y.first
-    at_least m [] j y are e = cc
-    at_least m (z ∷ zs) zero y are e = let same : z ≡ y = cc in subst (λ (w : Run). m ≤ w.first) same are.0
-    at_least m (z ∷ zs) (suc j) y are e = let rest = at_least (z.first + z.length + 1) zs j y are.3 e in omega (arith, rest, are.0)
 
 pub length-take_at : (runs : List Run) (i : ℕ) (r : Run) (n : ℕ) → slice_get runs i ≡ Some r → n ≤ r.length → length (numbers_of (take_at runs i n)) + n ≡ length (numbers_of runs)
 length-take_at [] i r n e le = cc

@@ -1,4 +1,5 @@
 pub mod Runs
 pub mod Taken
 pub mod Steps
+pub mod Order
 pub mod Rows

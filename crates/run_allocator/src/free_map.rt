@@ -1,7 +1,7 @@
 //! The free blocks of the area, kept as their runs.
 ghost use Rattle.std.specs.Prelude.{◌≡◌, ◌<◌, ◌≤◌, ◌↔◌, ◌∷◌, ℕ, length, IfOk, OnErr, IsErrOf};
 ghost use Rattle.vol_numbers.specs.Geometry.{layout_of};
-ghost use Rattle.run_allocator.specs.Runs.{numbers_of, free_area};
+ghost use Rattle.run_allocator.specs.Runs.{numbers_of, free_area, Ascends};
 ghost use Rattle.run_allocator.specs.Taken.{taken_runs, AreTaken, left_without};
 ghost use Rattle.run_allocator.specs.declared.free_map.TakeFault.TheVariants.{Short};
 
@@ -75,9 +75,10 @@ impl FreeMap {
         })
     }
 
-    /// How many blocks are free.
+    /// How many blocks are free. As a list their numbers ascend, and each is in the greatest volume.
     pub fn free(&self) -> u32
-        ensures { result ≡ length self.now }
+        ensures count { result ≡ length self.now }
+        ensures ascends { Ascends 1 self.now }
     {
         self.free
     }
@@ -94,8 +95,10 @@ impl FreeMap {
 
     /// Takes n blocks by the rule. One block is taken from the lowest run, without a look at any other.
     ///
-    /// Where a run is long enough, the runs up to the lowest such are looked at once. Where none is and the blocks are taken in k runs,
-    /// all runs are copied once and looked at at most k + 1 times.
+    /// Where a run is long enough, the runs up to the lowest such are looked at once.
+    ///
+    /// Else the runs are passed five times, however many are taken: to see that none is long enough, to copy them, to count
+    /// those that are taken whole, to drop these, and to find the last piece. The copy is sorted once, in place.
     pub fn take_run(&mut self, n: u32) -> Result<RunList, TakeFault>
         requires { 1 ≤ n }
         ensures taken { IfOk result (λ runs. runs ≡ taken_runs self.old n) }

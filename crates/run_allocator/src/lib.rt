@@ -2,6 +2,7 @@
 #![tactic(auto)]
 
 mod free_map;
+mod order;
 mod pieces;
 mod rule;
 mod zeros;

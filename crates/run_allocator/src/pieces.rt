@@ -1,10 +1,11 @@
 //! Pieces of free runs: which the rule takes, and the taking.
-ghost use Rattle.std.specs.Prelude.{◌≡◌, ◌<◌, ◌≤◌, ◌+◌, ◌-◌, ◌∷◌, nat_le, nat_lt, length, IfOk, OnErr, List};
+ghost use Rattle.std.specs.Prelude.{◌≡◌, ◌≢◌, ◌<◌, ◌≤◌, ◌+◌, ◌-◌, ◌∷◌, nat_le, length, IfOk, OnErr, IfSome, IfNone, None};
 ghost use Rattle.vol_numbers.specs.declared.runs.Run.{Run};
 ghost use Rattle.run_allocator.specs.Runs.{AreApart, numbers_of};
-ghost use Rattle.run_allocator.specs.Taken.{front};
+ghost use Rattle.run_allocator.specs.Taken.{front, first_fit};
 ghost use Rattle.run_allocator.specs.Steps.{IsFront, IsPiece, IsStep, AreSteps, take_at};
 
+use crate::order::{drop_before, in_order, whole_runs};
 use std::alloc::{AllocError, Global};
 use std::collections::VecDeque;
 use vol_numbers::{BlockNo, Run};
@@ -41,14 +42,10 @@ pub(crate) fn take_pieces(
     ensures taken { IfOk result (λ taken. AreSteps runs.old.items n taken.items runs.new.items) }
     ensures unchanged { OnErr result (runs.new.items ≡ runs.old.items) }
 {
-    let piece = find_piece(runs, n);
-    if piece.length == n {
-        return take_one_piece(alloc, runs, piece);
+    match find_piece(runs, n) {
+        Some(piece) => take_one_piece(alloc, runs, piece),
+        None => take_many(alloc, runs, n),
     }
-    let mut rest = copied(alloc, runs)?;
-    let taken = take_many(alloc, &mut rest, n)?;
-    *runs = rest;
-    Ok(taken)
 }
 
 /// Takes a piece that is all that is asked for. The memory is taken before.
@@ -68,42 +65,57 @@ fn take_one_piece(
     Ok(taken)
 }
 
+/// Takes n blocks as several pieces: runs that are whole, by length, and a last piece by the rule.
+///
+/// The runs are copied and sorted once, and then no memory is taken.
+fn take_many(alloc: Global, runs: &mut VecDeque<Run>, n: u32) -> Result<Vec<Run>, AllocError>
+    requires apart { AreApart 1 runs.old.items }
+    requires n { 1 ≤ n }
+    requires enough { n ≤ length (numbers_of runs.old.items) }
+    ensures taken { IfOk result (λ taken. AreSteps runs.old.items n taken.items runs.new.items) }
+    ensures unchanged { OnErr result (runs.new.items ≡ runs.old.items) }
+{
+    let mut order = in_order(alloc, runs)?;
+    let whole = whole_runs(&order, n);
+    drop_before(runs, order[whole.runs]);
+    order[whole.runs] = take_last(runs, whole.left);
+    order.truncate(whole.runs + 1);
+    Ok(order)
+}
+
 /// The same runs, in memory of their own.
 pub(crate) fn copied(alloc: Global, runs: &VecDeque<Run>) -> Result<VecDeque<Run>, AllocError>
     ensures { IfOk result (λ copy. copy.items ≡ runs.now.items) }
 {
+    Ok(VecDeque::from_vec(listed(alloc, runs)?))
+}
+
+/// The same runs as a list. Each is copied once.
+pub(crate) fn listed(alloc: Global, runs: &VecDeque<Run>) -> Result<Vec<Run>, AllocError>
+    ensures { IfOk result (λ list. list.items ≡ runs.now.items) }
+{
     let (front, back) = runs.as_slices();
-    let mut copy = Vec::from_slice(alloc, front)?;
-    copy.extend_from_slice(back)?;
-    Ok(VecDeque::from_vec(copy))
+    let mut list = Vec::with_capacity(alloc, runs.len())?;
+    list.extend_from_slice(front)?;
+    list.extend_from_slice(back)?;
+    Ok(list)
 }
 
-/// Takes n blocks piece by piece.
-fn take_many(alloc: Global, runs: &mut VecDeque<Run>, n: u32) -> Result<Vec<Run>, AllocError>
+/// Takes n blocks of the lowest run that is long enough.
+fn take_last(runs: &mut VecDeque<Run>, n: u32) -> Run
     requires apart { AreApart 1 runs.old.items }
-    requires enough { n ≤ length (numbers_of runs.old.items) }
-    ensures { IfOk result (λ taken. AreSteps runs.old.items n taken.items runs.new.items) }
-{
-    let mut taken = Vec::new(alloc);
-    let mut left = n;
-    while left > 0 {
-        let blocks = take_piece(runs, left);
-        taken.push(blocks)?;
-        left -= blocks.length;
-    }
-    Ok(taken)
-}
-
-/// Takes the next piece for n blocks.
-fn take_piece(runs: &mut VecDeque<Run>, n: u32) -> Run
-    requires apart { AreApart 1 runs.old.items }
-    requires some { 1 ≤ length runs.old.items }
     requires n { 1 ≤ n }
-    ensures { IsStep runs.old.items n result runs.new.items }
+    requires fits { first_fit n runs.old.items ≢ None }
+    ensures step { IsStep runs.old.items n result runs.new.items }
+    ensures all { result.length ≡ n }
 {
-    let piece = find_piece(runs, n);
-    cut(runs, piece);
-    piece.blocks()
+    match find_piece(runs, n) {
+        Some(piece) => {
+            cut(runs, piece);
+            piece.blocks()
+        }
+        None => unreachable!(),
+    }
 }
 
 /// Takes the lowest block of all.
@@ -148,40 +160,28 @@ fn behind(run: Run, n: u32) -> Run
     }
 }
 
-/// The piece that the rule takes for n blocks: of the first run that is long enough, or else the longest run, the first among equals.
-fn find_piece(runs: &VecDeque<Run>, n: u32) -> Piece
+/// The lowest n blocks of the lowest run that is long enough.
+fn find_piece(runs: &VecDeque<Run>, n: u32) -> Option<Piece>
     requires apart { AreApart 1 runs.now.items }
-    requires some { 1 ≤ length runs.now.items }
     requires n { 1 ≤ n }
-    ensures { IsPiece runs.now.items n result }
+    ensures found { IfSome result (λ piece. IsPiece runs.now.items n piece) }
+    ensures all { IfSome result (λ piece. piece.length ≡ n) }
+    ensures none { IfNone result (first_fit n runs.now.items ≡ None) }
 {
-    let mut index = 0;
-    let mut longest = runs[0];
     for i in 0..runs.len() {
         let run = runs[i];
         if is_enough(run, n) {
-            return lowest(i, run, n);
-        }
-        if is_longer(run, longest) {
-            index = i;
-            longest = run;
+            return Some(lowest(i, run, n));
         }
     }
-    lowest(index, longest, longest.length)
+    None
 }
 
 /// Whether a run has n blocks.
-fn is_enough(run: Run, n: u32) -> bool
+pub(crate) fn is_enough(run: Run, n: u32) -> bool
     ensures { result ≡ nat_le n run.length }
 {
     n <= run.length
-}
-
-/// Whether a run is longer than another.
-fn is_longer(run: Run, other: Run) -> bool
-    ensures { result ≡ nat_lt other.length run.length }
-{
-    other.length < run.length
 }
 
 /// The lowest n blocks of a run.

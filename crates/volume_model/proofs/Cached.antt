@@ -113,7 +113,7 @@ forgotten (p ∷ ps) block = by (nat_eq p.1 block) refl (forgotten ps block)
     by true is more = more
     by false is more = ap (λ (t : Bool). t || is_cached (forget ps block) block) is ∙ more
 
-filter_once : (test : List ℕ × ℕ → Bool) (pairs : CacheList) → Distinct (cached_blocks pairs) → Distinct (cached_blocks (filter test pairs))
+pub filter_once : (test : List ℕ × ℕ → Bool) (pairs : CacheList) → Distinct (cached_blocks pairs) → Distinct (cached_blocks (filter test pairs))
 filter_once test [] once = tt
 filter_once test (p ∷ ps) once = by (test p) (filter_once test ps once.1)
   where

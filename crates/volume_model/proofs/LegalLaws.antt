@@ -10,7 +10,7 @@ use Rattle.tree_model.specs.declared.report.Answer.{Answer}
 use Rattle.tree_model.specs.declared.report.Report.{Report}
 use Rattle.tree_model.specs.Step.{step, is_change, is_plain}
 use Rattle.tree_model.specs.Tree.{Tree}
-use Rattle.volume_model.specs.Charge.{need}
+use Rattle.space_account.specs.Charge.{need}
 use Rattle.volume_model.specs.Done.{done}
 use Rattle.volume_model.specs.Laws.{LegalIs, ExcusesAreFew, SomeIsLegal, RepliesAreTheTrees, NextTree, NextStored, recorded}
 use Rattle.volume_model.specs.Legal.{changes, is_due, is_full, reply_to, is_outside, is_excuse, when_answered, MayReport, Replies, IsLegal, is_done, answer_after, answer_with, fresh_told}

@@ -1,10 +1,16 @@
+pub mod CacheLists
 pub mod Cached
 pub mod LegalLaws
+pub mod LineCounts
 pub mod LineLaws
+pub mod LineOrder
 pub mod Order
 pub mod PieceLaws
+pub mod PlacesTold
 pub mod PointSpace
+pub mod ReportOrder
 pub mod Selecting
+pub mod SharedBytes
 pub mod SharedPlaces
 pub mod SharingLaws
 pub mod WholeLaws

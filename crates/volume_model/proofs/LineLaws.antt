@@ -33,7 +33,7 @@ one_more e n g same =
 one_place : (e : Spot × ℕ) → line_places (fresh_line e 1) ≡ e ∷ []
 one_place e = λ i. ((e.0.0, add-zero e.0.1 i), add-zero e.1 i) ∷ []
 
-lines_cons : (l : Line) (ls : List Line) → lines_places (l ∷ ls) ≡ line_places l ++ lines_places ls
+pub lines_cons : (l : Line) (ls : List Line) → lines_places (l ∷ ls) ≡ line_places l ++ lines_places ls
 lines_cons l ls = flat_map-cons line_places l ls
 
 with_fresh_places : (e : Spot × ℕ) (ls : List Line) → lines_places (with_fresh e ls) ≡ e ∷ lines_places ls
@@ -52,9 +52,9 @@ with_fresh_places e (l ∷ ls) = by (goes_on e l) refl
         ∙ ap (λ (es : Places). e ∷ es) (sym (lines_cons l ls))
     by false off = lines_cons (fresh_line e 1) (l ∷ ls) ∙ ap (λ (es : Places). es ++ lines_places (l ∷ ls)) (one_place e)
 
-fresh_places : (placed : Places) → lines_places (fresh_lines placed) ≡ placed
-fresh_places [] = refl
-fresh_places (e ∷ es) = with_fresh_places e (fresh_lines es) ∙ ap (λ (es : Places). e ∷ es) (fresh_places es)
+pub lines_places-fresh_lines : (placed : Places) → lines_places (fresh_lines placed) ≡ placed
+lines_places-fresh_lines [] = refl
+lines_places-fresh_lines (e ∷ es) = with_fresh_places e (fresh_lines es) ∙ ap (λ (es : Places). e ∷ es) (lines_places-fresh_lines es)
 
 longer : (e : Spot × ℕ) (l : Line) (ls : List Line) → goes_on e l ≡ true → AreLongest (l ∷ ls) → AreLongest (fresh_line e (l.length + 1) ∷ ls)
 longer e l [] on are = tt
@@ -73,11 +73,11 @@ fresh_longest [] = tt
 fresh_longest (e ∷ es) = with_fresh_longest e (fresh_lines es) (fresh_longest es)
 
 pub fresh_lines_are : FreshLinesAre
-fresh_lines_are = record { places = fresh_places; longest = fresh_longest }
+fresh_lines_are = record { places = lines_places-fresh_lines; longest = fresh_longest }
 
 -- ---- fresh lines are fresh, and in order
 
-abbrev AllFresh : List Line → Type 0
+abbrev pub AllFresh : List Line → Type 0
 AllFresh [] = Unit {0}
 AllFresh (l ∷ ls) = (is_fresh l ≡ true) × AllFresh ls
 
@@ -89,7 +89,7 @@ with_fresh_fresh e (l ∷ ls) all = by (goes_on e l)
     by true = (refl, all.1)
     by false = (refl, all)
 
-all_fresh : (placed : Places) → AllFresh (fresh_lines placed)
+pub all_fresh : (placed : Places) → AllFresh (fresh_lines placed)
 all_fresh [] = tt
 all_fresh (e ∷ es) = with_fresh_fresh e (fresh_lines es) (all_fresh es)
 
@@ -98,7 +98,7 @@ only_fresh [] all = refl
 only_fresh (l ∷ ls) all = ap (λ (t : Bool). cond t (l ∷ fresh_only ls) (fresh_only ls)) all.0 ∙ ap (λ (ms : List Line). l ∷ ms) (only_fresh ls all.1)
 
 -- each comes first of itself and the next
-abbrev AreInOrder : List Line → Type 0
+abbrev pub AreInOrder : List Line → Type 0
 AreInOrder [] = Unit {0}
 AreInOrder (l ∷ []) = Unit {0}
 AreInOrder (l ∷ next ∷ ls) = (comes_first l next ≡ true) × AreInOrder (next ∷ ls)
@@ -111,7 +111,7 @@ rest_in_order : (l : Line) (ls : List Line) → AreInOrder (l ∷ ls) → AreInO
 rest_in_order l [] ordered = tt
 rest_in_order l (m ∷ ms) ordered = ordered.1
 
-already : (ls : List Line) → AreInOrder ls → in_order ls ≡ ls
+pub already : (ls : List Line) → AreInOrder ls → in_order ls ≡ ls
 already [] ordered = refl
 already (l ∷ ls) ordered = ap (with_line l) (already ls (rest_in_order l ls ordered)) ∙ in_front l ls ordered
 
@@ -144,14 +144,14 @@ behind_first : (s : Spot) (placed : Places) → below_all spot_cmp s placed ≡ 
 behind_first s [] below = tt
 behind_first s (e ∷ es) below = behind_with s e (fresh_lines es) (first_of _ _ below)
 
-fresh_in_order : (placed : Places) → InOrder placed → AreInOrder (fresh_lines placed)
+pub fresh_in_order : (placed : Places) → InOrder placed → AreInOrder (fresh_lines placed)
 fresh_in_order [] ordered = tt
 fresh_in_order (e ∷ es) ordered =
     with_fresh_in_order e (fresh_lines es) (behind_first e.0 es (first_of _ _ ordered)) (fresh_in_order es (second_of _ _ ordered))
 
 -- ---- share lines are passed over
 
-abbrev NoneFresh : List Line → Type 0
+abbrev pub NoneFresh : List Line → Type 0
 NoneFresh [] = Unit {0}
 NoneFresh (l ∷ ls) = (is_fresh l ≡ false) × NoneFresh ls
 
@@ -163,7 +163,7 @@ none_of : (number : ℕ) (qs : List Sequence) → NoneFresh (map (share_line num
 none_of number [] = tt
 none_of number (q ∷ qs) = (refl, none_of number qs)
 
-none_shared : (r : Rules) (m : Machine) (numbers : List ℕ) → NoneFresh (flat_map (λ number. map (share_line number) (selected r m number)) numbers)
+pub none_shared : (r : Rules) (m : Machine) (numbers : List ℕ) → NoneFresh (flat_map (λ number. map (share_line number) (selected r m number)) numbers)
 none_shared r m [] = tt
 none_shared r m (n ∷ ns) =
     subst (λ (ls : List Line). NoneFresh ls) (sym (flat_map-cons (λ number. map (share_line number) (selected r m number)) n ns))
@@ -192,7 +192,7 @@ placed_below s (t ∷ ts) (b ∷ bs) below = both (is_lt (spot_cmp s t)) _ (firs
     both true b e f = f
     both false b e f = cc
 
-placed_in_order : (spots : List Spot) (blocks : List ℕ) → InOrder (unplaced spots) → InOrder (placed_at spots blocks)
+pub placed_in_order : (spots : List Spot) (blocks : List ℕ) → InOrder (unplaced spots) → InOrder (placed_at spots blocks)
 placed_in_order [] blocks ordered = refl
 placed_in_order (s ∷ ss) [] ordered = refl
 placed_in_order (s ∷ ss) (b ∷ bs) ordered = both (below_all spot_cmp s (placed_at ss bs)) _ (placed_below s ss bs (first_of _ _ ordered)) (placed_in_order ss bs (second_of _ _ ordered))
@@ -201,24 +201,31 @@ placed_in_order (s ∷ ss) (b ∷ bs) ordered = both (below_all spot_cmp s (plac
     both true b e f = f
     both false b e f = cc
 
-placed_blocks : (spots : List Spot) (blocks : List ℕ) → length blocks ≡ length spots → blocks_of (placed_at spots blocks) ≡ blocks
+pub placed_blocks : (spots : List Spot) (blocks : List ℕ) → length blocks ≡ length spots → blocks_of (placed_at spots blocks) ≡ blocks
 placed_blocks [] [] e = refl
 placed_blocks [] (b ∷ bs) e = absurd (omega (arith, e))
 placed_blocks (s ∷ ss) [] e = absurd (omega (arith, e))
 placed_blocks (s ∷ ss) (b ∷ bs) e = ap (λ (blocks : List ℕ). b ∷ blocks) (placed_blocks ss bs (omega (arith, e)))
 
 -- which of the dirty places get fresh blocks
-abbrev spots_for : Rules → Machine → List Spot
+abbrev pub spots_for : Rules → Machine → List Spot
 spots_for r m = fresh_spots m (lines_places (share_lines r m))
+
+pub fresh_in_lines : (r : Rules) (m : Machine) (fresh : List ℕ) → InOrder (unplaced m.dirty) → InOrder (placed_at (spots_for r m) fresh)
+fresh_in_lines r m fresh ordered =
+    placed_in_order (spots_for r m) fresh (filter_spots_in_order (λ (s : Spot). not (has_spot (spots_of (lines_places (share_lines r m))) s)) m.dirty ordered)
+
+pub fresh_only-lines_of : (r : Rules) (m : Machine) (fresh : List ℕ) → InOrder (unplaced m.dirty) → fresh_only (lines_of r m fresh) ≡ fresh_lines (placed_at (spots_for r m) fresh)
+fresh_only-lines_of r m fresh ordered =
+    let placed = placed_at (spots_for r m) fresh in
+    let lines = fresh_in_order placed (fresh_in_lines r m fresh ordered) in
+    all_passed_over (share_lines r m) (fresh_lines placed) (none_shared r m (numbers_of m.dirty)) ∙ ap fresh_only (already (fresh_lines placed) lines) ∙ only_fresh (fresh_lines placed) (all_fresh placed)
 
 fresh_told_of : (r : Rules) (m : Machine) (fresh : List ℕ) → InOrder (unplaced m.dirty) → length fresh ≡ length (spots_for r m) → fresh_in (report_of r m fresh) ≡ fresh
 fresh_told_of r m fresh ordered long =
-    let placed = placed_at (spots_for r m) fresh in
-    let spots = filter_spots_in_order (λ (s : Spot). not (has_spot (spots_of (lines_places (share_lines r m))) s)) m.dirty ordered in
-    let lines = fresh_in_order placed (placed_in_order (spots_for r m) fresh spots) in
-    let only : fresh_only (lines_of r m fresh) ≡ fresh_lines placed =
-    all_passed_over (share_lines r m) (fresh_lines placed) (none_shared r m (numbers_of m.dirty)) ∙ ap fresh_only (already (fresh_lines placed) lines) ∙ only_fresh (fresh_lines placed) (all_fresh placed) in
-    ap (λ (ls : List Line). blocks_of (lines_places ls)) only ∙ ap blocks_of (fresh_places placed) ∙ placed_blocks (spots_for r m) fresh long
+    ap (λ (ls : List Line). blocks_of (lines_places ls)) (fresh_only-lines_of r m fresh ordered)
+    ∙ ap blocks_of (lines_places-fresh_lines (placed_at (spots_for r m) fresh))
+    ∙ placed_blocks (spots_for r m) fresh long
 
 pub points_exist : PointsExist
 points_exist r m fresh ordered may =

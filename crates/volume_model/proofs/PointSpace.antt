@@ -19,7 +19,7 @@ use Rattle.volume_model.specs.Laws.{PointFits}
 use Rattle.volume_model.specs.Lines.{lines_places}
 use Rattle.volume_model.specs.Machine.{Machine, Rules, free_of}
 use Rattle.volume_model.specs.Places.{Spot, Places, spot_cmp, has_spot, spots_of, blocks_of, is_block, places_of, unplaced, all_put}
-use Rattle.volume_model.specs.Point.{placed_at, placed_after, fresh_spots, share_lines}
+use Rattle.volume_model.specs.Point.{placed_at, placed_after, fresh_spots, may_be_fresh, share_lines}
 use Rattle.volume_model.specs.Short.{kept_and_dirty}
 use Rattle.volume_model.specs.Space.{metadata_blocks, inode_blocks, content_blocks}
 use Rattle.volume_model.specs.Whole.{IsWhole}
@@ -30,10 +30,10 @@ use Rattle.volume_model.proofs.WholeLaws.{same_spot}
 
 -- ---- which places there are after the point
 
-abbrev here : Spot → ℕ → ℕ → Bool
+abbrev pub here : Spot → ℕ → ℕ → Bool
 here s n k = nat_eq s.0 n && nat_eq s.1 k
 
-abbrev has : Places → ℕ → ℕ → Bool
+abbrev pub has : Places → ℕ → ℕ → Bool
 has placed n k = has_spot (spots_of placed) (n, k)
 
 same_here : (a b : Spot) → spot_cmp a b ≡ Equal → (n k : ℕ) → here a n k ≡ here b n k
@@ -60,7 +60,7 @@ put_has spot block (e ∷ es) n k = by (spot_cmp spot e.0) refl (put_has spot bl
     by Equal is more = twice (here e.0 n k) (here spot n k) (has es n k) (sym (same_here spot e.0 is n k))
     by Greater is more = swap (here e.0 n k) (here spot n k) _ _ more
 
-all_put_has : (es placed : Places) (n k : ℕ) → has (all_put es placed) n k ≡ (has es n k || has placed n k)
+pub all_put_has : (es placed : Places) (n k : ℕ) → has (all_put es placed) n k ≡ (has es n k || has placed n k)
 all_put_has [] placed n k = refl
 all_put_has (e ∷ es) placed n k =
     all_put_has es (put spot_cmp e.0 e.1 placed) n k ∙ ap (λ (t : Bool). has es n k || t) (put_has e.0 e.1 placed n k) ∙ mixed (here e.0 n k) (has es n k) (has placed n k)
@@ -70,7 +70,7 @@ all_put_has (e ∷ es) placed n k =
     mixed true false z = refl
     mixed false y z = refl
 
-left_has : (test : Spot → Bool) (spots : List Spot) (n k : ℕ) → has_spot (filter test spots) (n, k) ≡ (has_spot spots (n, k) && test (n, k))
+pub left_has : (test : Spot → Bool) (spots : List Spot) (n k : ℕ) → has_spot (filter test spots) (n, k) ≡ (has_spot spots (n, k) && test (n, k))
 left_has test [] n k = refl
 left_has test (s ∷ ss) n k = by (here s n k) refl (left_has test ss n k)
   where
@@ -90,7 +90,7 @@ left_has test (s ∷ ss) n k = by (here s n k) refl (left_has test ss n k)
     by true is more = let own = same_spot s (n, k) is in ap (λ (t : Bool). has_spot (cond t (s ∷ filter test ss) (filter test ss)) (n, k)) (ap test own) ∙ found (test (n, k)) refl more is
     by false is more = apart (test s) more is
 
-shared_has : (m : Machine) (ps : Places) (n k : ℕ) → AreShared m ps → has ps n k ≡ true → has_spot m.dirty (n, k) ≡ true
+pub shared_has : (m : Machine) (ps : Places) (n k : ℕ) → AreShared m ps → has ps n k ≡ true → has_spot m.dirty (n, k) ≡ true
 shared_has m [] n k all e = cc
 shared_has m (p ∷ ps) n k all e = by (here p.0 n k) refl e (shared_has m ps n k all.2)
   where
@@ -104,17 +104,17 @@ joined true false k f = refl
 joined false true k f = let e : false ≡ true = f refl in cc
 joined false false k f = refl
 
-placed_spots : (spots : List Spot) (blocks : List ℕ) → length blocks ≡ length spots → spots_of (placed_at spots blocks) ≡ spots
+pub placed_spots : (spots : List Spot) (blocks : List ℕ) → length blocks ≡ length spots → spots_of (placed_at spots blocks) ≡ spots
 placed_spots [] blocks e = refl
 placed_spots (s ∷ ss) [] e = absurd (omega (arith, e))
 placed_spots (s ∷ ss) (b ∷ bs) e = ap (λ (spots : List Spot). s ∷ spots) (placed_spots ss bs (omega (arith, e)))
 
-zero_spots : (spots : List Spot) → spots_of (unplaced spots) ≡ spots
+pub zero_spots : (spots : List Spot) → spots_of (unplaced spots) ≡ spots
 zero_spots [] = refl
 zero_spots (s ∷ ss) = ap (λ (spots : List Spot). s ∷ spots) (zero_spots ss)
 
 -- where there are as many blocks as places for them, the places are those that were kept or dirty
-after_has : (r : Rules) (m : Machine) (fresh : List ℕ) → 0 < r.threshold → IsWhole m → length fresh ≡ length (fresh_spots m (lines_places (share_lines r m))) → (n k : ℕ)
+pub after_has : (r : Rules) (m : Machine) (fresh : List ℕ) → 0 < r.threshold → IsWhole m → length fresh ≡ length (fresh_spots m (lines_places (share_lines r m))) → (n k : ℕ)
     → has (placed_after r m fresh) n k ≡ has (kept_and_dirty m) n k
 after_has r m fresh positive whole long n k =
     let shares = lines_places (share_lines r m) in
@@ -128,7 +128,7 @@ after_has r m fresh positive whole long n k =
 
 -- ---- metadata depends on which places there are
 
-has_place : (placed : Places) (n k : ℕ) → is_among (places_of placed n) k ≡ has placed n k
+pub has_place : (placed : Places) (n k : ℕ) → is_among (places_of placed n) k ≡ has placed n k
 has_place [] n k = refl
 has_place (e ∷ es) n k = by (nat_eq e.0.0 n) (has_place es n k)
   where
@@ -258,11 +258,18 @@ fewer_spots test (s ∷ ss) = by (test s) (fewer_spots test ss)
     by true more = omega (arith, more)
     by false more = omega (arith, more)
 
+-- as many fresh blocks as places for them
+pub long_as : (r : Rules) (m : Machine) (fresh : List ℕ) → may_be_fresh r m fresh ≡ true → length fresh ≡ length (fresh_spots m (lines_places (share_lines r m)))
+long_as r m fresh may = same (length fresh) _ (first_of _ _ (first_of _ _ may))
+  where
+    same : (a b : ℕ) → nat_eq a b ≡ true → a ≡ b
+    same a b e = grind (arith, nat_tests)
+
 pub point_fits : PointFits
 point_fits r m fresh positive whole may enough =
     let shares = lines_places (share_lines r m) in
     let spots = fresh_spots m shares in
-    let long : length fresh ≡ length spots = same (length fresh) (length spots) (first_of _ _ (first_of _ _ may)) in
+    let long = long_as r m fresh may in
     let placed = placed_after r m fresh in
     let meta = metadata_member m.tree placed (kept_and_dirty m) (after_has r m fresh positive whole long) in
     let part = different_part (blocks_of placed) (blocks_of (placed_at spots fresh) ++ blocks_of m.stored_places) (after_blocks r m fresh positive whole) in
@@ -276,6 +283,3 @@ point_fits r m fresh positive whole may enough =
       blocks_length spots fresh,
       fewer_spots (λ (spot : Spot). not (has_spot (spots_of shares) spot)) m.dirty,
     )
-  where
-    same : (a b : ℕ) → nat_eq a b ≡ true → a ≡ b
-    same a b e = grind (arith, nat_tests)

@@ -24,11 +24,11 @@ both_true false b e f = cc
 
 -- ---- each sequence that is selected is one among all dirty places
 
-abbrev AllIn : Matching → List ℕ → List Sequence → Type 0
+abbrev pub AllIn : Matching → List ℕ → List Sequence → Type 0
 AllIn matches places [] = Unit {0}
 AllIn matches places (q ∷ qs) = IsSequence matches places q × AllIn matches places qs
 
-fewer : (q : Sequence) (places : List ℕ) (x : ℕ) → is_among (without places q) x ≡ true → is_among places x ≡ true
+pub fewer : (q : Sequence) (places : List ℕ) (x : ℕ) → is_among (without places q) x ≡ true → is_among places x ≡ true
 fewer q [] x e = e
 fewer q (p ∷ ps) x e = by (not (covers q p)) e (fewer q ps x)
   where
@@ -59,7 +59,7 @@ by_place_in : (matches : Matching) (places : List ℕ) (qs : List Sequence) → 
 by_place_in matches places [] all = tt
 by_place_in matches places (q ∷ qs) all = in_place_in matches places q (by_place qs) all.0 (by_place_in matches places qs all.1)
 
-selected_in : (r : Rules) (m : Machine) (number : ℕ) → 0 < r.threshold → IsWhole m → AllIn (matches m number) (dirty_places m number) (selected r m number)
+pub selected_in : (r : Rules) (m : Machine) (number : ℕ) → 0 < r.threshold → IsWhole m → AllIn (matches m number) (dirty_places m number) (selected r m number)
 selected_in r m number positive whole =
     let s = selected_is r m number positive whole.dirty_in_order in
     subst (λ (qs : List Sequence). AllIn (matches m number) (dirty_places m number) qs) (sym s.sorted)

@@ -77,11 +77,11 @@ or_none : (a b : Bool) → a ≡ false → b ≡ false → (a || b) ≡ false
 or_none true b e f = cc
 or_none false b e f = f
 
-or_first_none : (a b : Bool) → (a || b) ≡ false → a ≡ false
+pub or_first_none : (a b : Bool) → (a || b) ≡ false → a ≡ false
 or_first_none true b e = cc
 or_first_none false b e = refl
 
-or_second_none : (a b : Bool) → (a || b) ≡ false → b ≡ false
+pub or_second_none : (a b : Bool) → (a || b) ≡ false → b ≡ false
 or_second_none true b e = cc
 or_second_none false b e = e
 

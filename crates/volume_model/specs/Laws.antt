@@ -16,7 +16,7 @@ use Rattle.tree_model.specs.Step.{step, is_change, is_plain}
 use Rattle.place_words.specs.Different.{different, is_among, span, Distinct}
 use Rattle.volume_model.specs.declared.sequence.Sequence.{Sequence}
 use Rattle.volume_model.specs.Cache.{CacheList, cached_blocks, use_block}
-use Rattle.volume_model.specs.Charge.{need}
+use Rattle.space_account.specs.Charge.{need}
 use Rattle.volume_model.specs.Done.{mounted}
 use Rattle.volume_model.specs.Legal.{IsLegal, is_due, is_excuse, is_outside, is_done, reply_to, answer_with, fresh_told, next, when_answered}
 use Rattle.volume_model.specs.Lines.{fresh_lines, lines_places}

@@ -12,8 +12,9 @@ use Rattle.tree_model.specs.declared.report.Answer.{Answer}
 use Rattle.tree_model.specs.Tree.{node_at}
 use Rattle.tree_model.specs.Step.{step, is_change, refusal_of}
 use Rattle.op_log.specs.Record.{record_blocks}
-use Rattle.volume_model.specs.Charge.{charge, reserve, need, pending, log_use}
+use Rattle.space_account.specs.Charge.{charge, reserve, need, pending}
 use Rattle.volume_model.specs.Done.{done}
+use Rattle.volume_model.specs.LogUse.{log_use}
 use Rattle.volume_model.specs.Machine.{Machine, Rules, free_of}
 use Rattle.volume_model.specs.Pieces.{pieces}
 use Rattle.volume_model.specs.Point.{IsPoint, after_point, fresh_in, report_of}

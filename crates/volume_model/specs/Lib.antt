@@ -2,7 +2,7 @@ pub mod Places
 pub mod Cache
 pub mod Selection
 pub mod Select
-pub mod Charge
+pub mod LogUse
 pub mod Space
 pub mod Machine
 pub mod Done
@@ -14,3 +14,5 @@ pub mod Legal
 pub mod Short
 pub mod Whole
 pub mod Laws
+pub mod ReportLaws
+pub mod CacheLaws

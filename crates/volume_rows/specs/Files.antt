@@ -1,15 +1,16 @@
 -- Rows on files: what is written, cut, removed and read.
-use Rattle.std.specs.Prelude.{◌≡◌, ◌-◌, ◌^◌, true, false, [], ◌∷◌, replicate, None}
+use Rattle.std.specs.Prelude.{◌≡◌, ℕ, ◌-◌, ◌^◌, true, false, List, [], ◌∷◌, replicate, None}
 use Rattle.tree_model.specs.declared.command.Command.TheVariants.{Create, Write, Truncate, Remove, Read, Stat, Layout, Space, Checkpoint}
 use Rattle.tree_model.specs.declared.reply.Kind.TheVariants as kinds
 use Rattle.tree_model.specs.declared.reply.Piece.TheVariants.{Placed, Dirty}
 use Rattle.tree_model.specs.declared.reply.Reply.TheVariants as reply
+use Rattle.tree_model.specs.Touched.{touched}
 use Rattle.place_words.specs.Different.{span}
 use Rattle.volume_model.specs.Done.{all_done}
 use Rattle.volume_model.specs.Legal.{is_due, reply_to, next}
 use Rattle.volume_model.specs.Machine.{Machine}
 use Rattle.volume_model.specs.Point.{after_point, report_of, may_be_fresh, fresh_in}
-use Rattle.volume_rows.specs.Setting.{rules, fresh_volume, file, fresh, point, one_file, one_stored, two_stored}
+use Rattle.volume_rows.specs.Setting.{rules, fresh_volume, file, made, fresh, share, point, one_file, one_stored, two_stored}
 
 -- all of the area is free but an inode block and the inode index
 abbrev pub FormatRow : Type 0
@@ -47,6 +48,17 @@ pub record CutRows : Type 0 where
   pub report : report_of rules cut (103 ∷ []) ≡ point 2 1 0 1939 (fresh 2 1 1 103 ∷ [])
   pub read : reply_to (all_done (after_point rules cut (103 ∷ [])) (Truncate (file 97) 8192 ∷ [])) (Read (file 97) 4094 6) ≡ reply.Data (65 ∷ 65 ∷ 66 ∷ 66 ∷ 0 ∷ 0 ∷ [])
 
+abbrev pub evenly : Machine
+evenly = all_done one_stored (Truncate (file 97) 8192 ∷ [])
+
+-- A file that is cut at a multiple of 4,096 has no block cut in two. It touches no place, the point has nothing to write, and two blocks of
+-- the file and the leaf over them stay: 1,945 blocks of the area without these 2 and 4 of metadata.
+pub record EvenRows : Type 0 where
+  pub touches : touched one_stored.tree (Truncate (file 97) 8192) ≡ []
+  pub layout : reply_to evenly (Layout (file 97)) ≡ reply.Layout (Placed 0 2 105 ∷ [])
+  pub may : may_be_fresh rules evenly [] ≡ true
+  pub report : report_of rules evenly [] ≡ point 2 0 0 1939 []
+
 -- a file that grows within its last block, or into holes, keeps what it has
 pub record GrownRows : Type 0 where
   pub within : reply_to (all_done (after_point rules cut (103 ∷ [])) (Truncate (file 97) 4100 ∷ [])) (Layout (file 97)) ≡ reply.Layout (Placed 0 1 105 ∷ Placed 1 1 103 ∷ [])
@@ -66,6 +78,19 @@ removed = all_done two_stored (Remove (file 97) ∷ [])
 pub record RemovedRows : Type 0 where
   pub report : report_of rules removed [] ≡ point 3 0 0 1933 []
   pub read : reply_to (after_point rules removed []) (Read (file 98) 4095 2) ≡ reply.Data (65 ∷ 66 ∷ [])
+
+-- the stored file is removed and made again, with the same eight blocks or with two others
+abbrev pub again : List ℕ → Machine
+again letters = all_done one_stored (Remove (file 97) ∷ made 97 letters)
+
+-- A file that is removed and made again before the next point has the old number, and no place of the old file is kept. Its blocks of the
+-- last point may still be shared. Free are 1,945 blocks less the file's, 8 or 2, and 4 of metadata.
+pub record MadeAgainRows : Type 0 where
+  pub stat : reply_to (again (span 65 8)) (Stat (file 97)) ≡ reply.Stat kinds.File 2 32768
+  pub layout : reply_to (again (span 65 8)) (Layout (file 97)) ≡ reply.Layout (Dirty 0 8 ∷ [])
+  pub shared : report_of rules (again (span 65 8)) [] ≡ point 2 0 8 1933 (share 2 0 8 105 ∷ [])
+  pub shorter : reply_to (again (90 ∷ 91 ∷ [])) (Layout (file 97)) ≡ reply.Layout (Dirty 0 2 ∷ [])
+  pub fresh : report_of rules (again (90 ∷ 91 ∷ [])) (113 ∷ 114 ∷ []) ≡ point 2 2 0 1939 (fresh 2 0 2 113 ∷ [])
 
 -- a point with nothing pending changes the number alone, behind whose greatest comes 0
 pub record AtRestRows : Type 0 where

@@ -4,7 +4,7 @@ use Rattle.tree_model.specs.declared.command.Command.TheVariants.{Write, Remove}
 use Rattle.place_words.specs.Different.{span}
 use Rattle.volume_model.specs.Cache.{cached_blocks}
 use Rattle.volume_model.specs.Done.{all_done}
-use Rattle.volume_model.specs.Machine.{Machine}
+use Rattle.volume_model.specs.Machine.{Machine, Rules}
 use Rattle.volume_model.specs.Point.{after_point, report_of}
 use Rattle.volume_rows.specs.Setting.{rules, with_threshold, fresh_volume, file, blocks, made, fresh, share, point, one_stored, two_files, two_stored}
 
@@ -81,3 +81,27 @@ nine = one_each (fresh_volume 2048) 48 (105 ∷ 103 ∷ 106 ∷ 104 ∷ 107 ∷ 
 pub record NinthRows : Type 0 where
   pub cached : cached_blocks nine.cache ≡ 111 ∷ 110 ∷ 108 ∷ 109 ∷ 107 ∷ 104 ∷ 106 ∷ 103 ∷ []
   pub shared : report_of (with_threshold 2) (all_done nine (made 97 (replicate 8 65))) [] ≡ point 10 0 8 1932 (share 11 0 6 106 ∷ share 11 6 2 103 ∷ [])
+
+-- room for three pairs, and every block shared
+abbrev pub three : Rules
+three = record (with_threshold 1) { capacity = 3 }
+
+-- /a of A, B and C at 105 to 107, then /b of B, which is shared, then /c of D at 110, and then /d of E at 111, each with a point of its own
+abbrev pub used_once : Machine
+used_once = after_point three (all_done (fresh_volume 2048) (made 97 (span 65 3))) (span 105 3)
+
+abbrev pub used_again : Machine
+used_again = after_point three (all_done used_once (made 98 (66 ∷ []))) []
+
+abbrev pub one_more : Machine
+one_more = after_point three (all_done used_again (made 99 (68 ∷ []))) (110 ∷ [])
+
+abbrev pub two_more : Machine
+two_more = after_point three (all_done one_more (made 100 (69 ∷ []))) (111 ∷ [])
+
+-- The pair that was used least recently leaves first: 105, and then 107, though 106 came into the list before it.
+pub record OrderOfUseRows : Type 0 where
+  pub by_place : cached_blocks used_once.cache ≡ 107 ∷ 106 ∷ 105 ∷ []
+  pub in_front : cached_blocks used_again.cache ≡ 106 ∷ 107 ∷ 105 ∷ []
+  pub first_out : cached_blocks one_more.cache ≡ 110 ∷ 106 ∷ 107 ∷ []
+  pub next_out : cached_blocks two_more.cache ≡ 111 ∷ 110 ∷ 106 ∷ []

@@ -1,12 +1,12 @@
 -- Rows on space and on the log.
-use Rattle.std.specs.Prelude.{◌≡◌, ℕ, zero, suc, ◌+◌, ◌/◌, ◌%◌, true, false, List, [], ◌∷◌}
+use Rattle.std.specs.Prelude.{◌≡◌, ℕ, zero, suc, ◌+◌, ◌/◌, ◌%◌, true, false, List, [], ◌∷◌, None}
 use Rattle.tree_model.specs.declared.command.Command.{Command}
-use Rattle.tree_model.specs.declared.command.Command.TheVariants.{Create, Write, Remove}
-use Rattle.tree_model.specs.declared.refusal.Refusal.TheVariants.{NoSpace}
+use Rattle.tree_model.specs.declared.command.Command.TheVariants.{Create, Write, Remove, Rename}
+use Rattle.tree_model.specs.declared.refusal.Refusal.TheVariants.{NoSpace, NotFound, IsADirectory, Exists}
 use Rattle.tree_model.specs.declared.reply.Reply.TheVariants as reply
 use Rattle.place_words.specs.Different.{span}
 use Rattle.volume_model.specs.Done.{all_done}
-use Rattle.volume_model.specs.Legal.{is_due, reply_to}
+use Rattle.volume_model.specs.Legal.{is_due, reply_to, next}
 use Rattle.volume_model.specs.Machine.{Machine}
 use Rattle.volume_model.specs.Point.{after_point, report_of}
 use Rattle.volume_model.specs.Short.{is_short}
@@ -40,6 +40,24 @@ pub record FullRows : Type 0 where
 pub record JustEnoughRows : Type 0 where
   pub just_enough : reply_to full (write_of 4) ≡ reply.Done
   pub one_more : reply_to full (write_of 5) ≡ reply.Refused (NoSpace 28 29)
+
+-- the full volume after it refused a write, once
+abbrev pub asked : Machine
+asked = next uncached full (write_of 16) (record { report = None; reply = reply.Refused (NoSpace 28 40) })
+
+-- The refusal changes nothing, so that a full volume that is asked again answers the same.
+pub record AskedTwiceRows : Type 0 where
+  pub stays : asked ≡ full
+  pub no_point : is_due asked (write_of 16) ≡ false
+  pub again : reply_to asked (write_of 16) ≡ reply.Refused (NoSpace 28 40)
+
+-- On a full volume a change that the tree refuses gets the tree's refusal, though it needs more than 28 blocks. A write of 16 blocks needs
+-- 40 and a rename 36.
+pub record TreeFirstRows : Type 0 where
+  pub missing : reply_to full (Write (file 103) 0 (blocks (span 48 16))) ≡ reply.Refused NotFound
+  pub directory : reply_to full (Write [] 0 (blocks (span 48 16))) ≡ reply.Refused IsADirectory
+  pub taken : reply_to full (Rename (file 102) (file 102)) ≡ reply.Refused Exists
+  pub accepted : reply_to full (Rename (file 102) (file 103)) ≡ reply.Refused (NoSpace 28 36)
 
 -- A remove has space. The file that is made behind it makes a point due, which frees the removed one's blocks.
 pub record FreedRows : Type 0 where

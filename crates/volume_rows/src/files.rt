@@ -1,5 +1,5 @@
 //! Rows on files: what is written, cut, removed and read.
-ghost use Rattle.volume_rows.specs.Files.{FormatRow, OneFileRows, NotFreshRows, OneBlockRow, CutRows, GrownRows, NoBytesRows, RemovedRows, AtRestRows};
+ghost use Rattle.volume_rows.specs.Files.{FormatRow, OneFileRows, NotFreshRows, OneBlockRow, CutRows, EvenRows, GrownRows, NoBytesRows, RemovedRows, MadeAgainRows, AtRestRows};
 
 /// A fresh volume has all of its area free but two blocks.
 pub fn a_format_leaves_all_free()
@@ -26,6 +26,11 @@ pub fn a_cut_block_is_written_afresh()
     ensures { CutRows }
 {}
 
+/// A file that is cut between two blocks touches no place.
+pub fn a_cut_between_blocks_touches_nothing()
+    ensures { EvenRows }
+{}
+
 /// A file that grows keeps its blocks.
 pub fn a_grown_file_keeps_its_blocks()
     ensures { GrownRows }
@@ -39,6 +44,11 @@ pub fn a_write_of_nothing()
 /// What a removed file shared stays.
 pub fn a_removed_file_leaves_shared_blocks()
     ensures { RemovedRows }
+{}
+
+/// A file that is removed and made again between two points keeps no place, and may share what it had.
+pub fn a_file_is_removed_and_made_again()
+    ensures { MadeAgainRows }
 {}
 
 /// A point with nothing pending changes the number alone.

@@ -1,5 +1,5 @@
 //! Rows on sharing.
-ghost use Rattle.volume_rows.specs.Sharing.{SharedRow, BelowThresholdRow, AtThresholdRow, LongestRows, OnePointRows, LeastPlaceRows, OldBlocksRow, ForgottenRow, OneIsEnoughRows, NinthRows};
+ghost use Rattle.volume_rows.specs.Sharing.{SharedRow, BelowThresholdRow, AtThresholdRow, LongestRows, OnePointRows, LeastPlaceRows, OldBlocksRow, ForgottenRow, OneIsEnoughRows, NinthRows, OrderOfUseRows};
 
 /// A second file of the same blocks shares them all.
 pub fn a_file_shares_another()
@@ -49,4 +49,9 @@ pub fn one_block_is_enough()
 /// Of nine blocks with one fingerprint the one that was used first is no longer cached.
 pub fn the_ninth_of_a_fingerprint()
     ensures { NinthRows }
+{}
+
+/// The pair that was used least recently leaves the cache list first.
+pub fn the_least_recently_used_leaves_first()
+    ensures { OrderOfUseRows }
 {}

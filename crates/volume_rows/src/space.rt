@@ -1,5 +1,5 @@
 //! Rows on space and on the log.
-ghost use Rattle.volume_rows.specs.Space.{FilledRows, FullRows, JustEnoughRows, FreedRows, DueRows, FullLogRows, ShortRows};
+ghost use Rattle.volume_rows.specs.Space.{FilledRows, FullRows, AskedTwiceRows, TreeFirstRows, JustEnoughRows, FreedRows, DueRows, FullLogRows, ShortRows};
 
 /// A small volume is filled by two points.
 pub fn a_volume_is_filled()
@@ -14,6 +14,16 @@ pub fn just_enough_is_enough()
 /// A write is refused with what is free and what it needs.
 pub fn a_full_volume_refuses()
     ensures { FullRows }
+{}
+
+/// A full volume that is asked twice answers the same.
+pub fn a_full_volume_answers_the_same()
+    ensures { AskedTwiceRows }
+{}
+
+/// What the tree refuses is refused so on a full volume too.
+pub fn the_trees_refusal_comes_first()
+    ensures { TreeFirstRows }
 {}
 
 /// A remove has space, and the point behind it frees its blocks.

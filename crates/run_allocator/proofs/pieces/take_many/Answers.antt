@@ -1,38 +1,51 @@
-use Rattle.std.proofs.Common.{◌≡◌, ◌∙◌, ◌-◌, ◌++◌, List, [], ◌∷◌, ℕ, ap, sym, subst, arith}
-use Rattle.std.proofs.lemmas.List.{append_assoc, append-nil}
+use Rattle.std.proofs.Common.{◌∙◌, ◌≢◌, List, subst, sym, arith}
+use Rattle.std.specs.Prelude.{None}
+use Rattle.std.proofs.lemmas.List.{take_more_set}
 use Rattle.vol_numbers.specs.declared.runs.Run.{Run}
-use Rattle.run_allocator.specs.Runs.{numbers_of}
-use Rattle.run_allocator.specs.Taken.{AreTaken, done, more, left_without}
+use Rattle.run_allocator.specs.Taken.{first_fit}
+use Rattle.run_allocator.proofs.OrderLaws.{are_in_order, order_size, whole_within, whole_some, split_of, next_fits, kept_apart, split_steps}
 use Rattle.run_allocator.proofs.pieces.take_many.Goals as goal
 
-pub loop-left-preserved : goal.loop-left-preserved
-loop-left-preserved c =
-    let inv = c.loop-left.invariant in
-    let step = c.take_piece-blocks.ensures in
-    let run = c.take_piece-blocks.result in
-    let before : List ℕ = numbers_of c.loop-left.runs.items in
-    let items = c.in_ok-push.ensures.items in
-    record {
-      taken = λ rs after.
-          let all = inv.taken (run ∷ rs) (more before c.loop-left.left run rs c.loop-left-test.true step.taken
-          (subst (λ (free : List ℕ). AreTaken free (c.loop-left.left - run.length) rs) step.rest after)) in
-          subst (λ (xs : List Run). AreTaken (numbers_of c.args.runs.now.items) c.args.n xs) (sym (ap (λ (xs : List Run). xs ++ rs) items ∙ append_assoc c.loop-left.taken.items (run ∷ []) rs)) all;
-      rest = λ rs.
-          ap (λ (free : List ℕ). left_without free rs) step.rest ∙ (inv.rest (run ∷ rs)
-          ∙ ap (λ (xs : List Run). left_without (numbers_of c.args.runs.now.items) xs) (sym (ap (λ (xs : List Run). xs ++ rs) items ∙ append_assoc c.loop-left.taken.items (run ∷ []) rs)));
-      apart = step.apart;
-      enough = omega (arith, inv.enough, step.fewer, step.at_most);
-      fewer = omega (arith, inv.fewer, step.fewer, step.at_most);
-    }
+pub whole_runs-whole-requires-clause-enough : goal.whole_runs-whole-requires-clause-enough
+whole_runs-whole-requires-clause-enough c =
+    let o = are_in_order c.args.runs.now.items c.in_ok-order.order.items c.requires.apart c.in_ok-order.ensures in
+    rw c.deref.ensures.value (omega (arith, order_size c.args.runs.now.items c.in_ok-order.order.items o))
 
-pub returns : goal.returns
-returns c =
-    let inv = c.loop-left.invariant in
-    let none : 0 ≡ c.loop-left.left = omega arith in
-    let last = subst (λ (k : ℕ). AreTaken (numbers_of c.loop-left.runs.items) k []) none (done (numbers_of c.loop-left.runs.items)) in
-    record {
-      taken = subst (λ (xs : List Run). AreTaken (numbers_of c.args.runs.now.items) c.args.n xs) (append-nil c.loop-left.taken.items) (inv.taken [] last);
-      rest = inv.rest [] ∙ ap (λ (xs : List Run). left_without (numbers_of c.args.runs.now.items) xs) (append-nil c.loop-left.taken.items);
-      apart = inv.apart;
-      fewer = omega (arith, inv.fewer, none);
-    }
+pub index-requires : goal.index-requires
+index-requires c =
+    omega (arith, whole_within c.deref.result.now c.args.n c.whole_runs-whole.result.runs c.whole_runs-whole.result.left c.whole_runs-whole.ensures)
+
+pub take_last-requires-clause-apart : goal.take_last-requires-clause-apart
+take_last-requires-clause-apart c = rw c.drop_before.ensures (kept_apart 1 c.index.result.now c.args.runs.now.items c.requires.apart)
+
+pub take_last-requires-clause-fits : goal.take_last-requires-clause-fits
+take_last-requires-clause-fits c =
+    let runs = c.args.runs.now.items in
+    let order = c.in_ok-order.order.items in
+    let whole = c.whole_runs-whole.result in
+    let q = c.index.result.now in
+    let split = split_of runs order c.deref.result.now c.args.n whole.runs whole.left q c.requires.apart c.in_ok-order.ensures c.deref.ensures.value c.whole_runs-whole.ensures c.index.ensures in
+    subst (λ (xs : List Run). first_fit whole.left xs ≢ None) (sym c.drop_before.ensures) (next_fits runs order c.args.n whole.runs whole.left q split)
+
+pub take_last-requires-clause-n : goal.take_last-requires-clause-n
+take_last-requires-clause-n c =
+    whole_some c.deref.result.now c.args.n c.whole_runs-whole.result.runs c.whole_runs-whole.result.left c.requires.n c.whole_runs-whole.ensures
+
+pub index_mut-requires : goal.index_mut-requires
+index_mut-requires c =
+    omega (arith, whole_within c.deref.result.now c.args.n c.whole_runs-whole.result.runs c.whole_runs-whole.result.left c.whole_runs-whole.ensures)
+
+pub overflow_add-whole : goal.overflow_add-whole
+overflow_add-whole c =
+    omega (arith, whole_within c.deref.result.now c.args.n c.whole_runs-whole.result.runs c.whole_runs-whole.result.left c.whole_runs-whole.ensures)
+
+pub returns-clause-taken : goal.returns-clause-taken
+returns-clause-taken c =
+    let runs = c.args.runs.now.items in
+    let order = c.in_ok-order.order.items in
+    let whole = c.whole_runs-whole.result in
+    let q = c.index.result.now in
+    let split = split_of runs order c.deref.result.now c.args.n whole.runs whole.left q c.requires.apart c.in_ok-order.ensures c.deref.ensures.value c.whole_runs-whole.ensures c.index.ensures in
+    let within = whole_within order c.args.n whole.runs whole.left split.whole in
+    let pieces = c.truncate.ensures.items ∙ take_more_set order whole.runs c.take_last.result within in
+    rw pieces (split_steps runs order c.args.n whole.runs whole.left q c.take_last.result c.drop_before.new.runs.items c.take_last.new.runs.items split c.drop_before.ensures c.take_last.ensures.step c.take_last.ensures.all)

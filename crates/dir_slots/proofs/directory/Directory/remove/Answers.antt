@@ -36,7 +36,7 @@ invariant_of-self c =
     let kept = kept_taken slots order holes found.slot found.place place found.number name c.self.invariant.0 a.entry a.within a.place a.slot within above below in
     let entries : c.remove.new.self.items ≡ remove order found.place = c.remove.ensures.items in
     let left : c.put_hole.new.holes.items ≡ insert holes place found.slot = c.put_hole.ensures.put in
-    (rw (entries, left) kept, omega (arith, length-set slots found.slot Unused, c.self.invariant.1, c.put_hole.ensures.capacity))
+    (rw (c.clear_slot.ensures, entries, left) kept, omega (arith, ap length c.clear_slot.ensures, length-set slots found.slot Unused, c.self.invariant.1, c.put_hole.ensures.capacity))
 
 pub returns-clause-number : goal.returns-clause-number
 returns-clause-number c =
@@ -53,7 +53,7 @@ returns-clause-removed c =
     let name = c.args.name.now in
     let there : slot_at slots found.slot ≡ Entry found.number name = subst (λ (s : List Slot). slot_at s found.slot ≡ Entry found.number name) c.deref.ensures.value c.in_ok-found.ensures.found.entry in
     let at : slot_of slots name ≡ Some found.slot = slot_found slots found.number name found.slot (names_once slots _ c.self.invariant.0.entries) there in
-    subst (λ (s : List Slot). slice_set slots found.slot Unused ≡ without_slot s (slot_of s name)) c.self.view_is (sym (ap (without_slot slots) at))
+    c.clear_slot.ensures ∙ subst (λ (s : List Slot). slice_set slots found.slot Unused ≡ without_slot s (slot_of s name)) c.self.view_is (sym (ap (without_slot slots) at))
 
 pub put_hole-requires-clause-room : goal.put_hole-requires-clause-room
 put_hole-requires-clause-room c = omega (arith, few_holes c.self.inside.slots.items c.self.inside.holes.items c.self.invariant.0.unused, c.self.invariant.1)

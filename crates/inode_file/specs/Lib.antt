@@ -1,0 +1,8 @@
+pub mod Bits
+pub mod Counting
+pub mod Inodes
+pub mod Laws
+pub mod Loading
+pub mod Noted
+pub mod Renewal
+pub mod Rewriting

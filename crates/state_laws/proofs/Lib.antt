@@ -1,0 +1,11 @@
+pub mod Bytes
+pub mod Changes
+pub mod Commands
+pub mod FilesFollow
+pub mod FilesNumbered
+pub mod FreshState
+pub mod HeldBytes
+pub mod PointBytes
+pub mod ReachedStates
+pub mod TrueFingerprints
+pub mod WrittenBytes

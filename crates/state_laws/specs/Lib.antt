@@ -1,0 +1,4 @@
+pub mod Files
+pub mod Accepted
+pub mod States
+pub mod Laws
