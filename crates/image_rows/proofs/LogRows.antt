@@ -226,12 +226,15 @@ no_remove command good =
     cc
 
 pub at_wanting_file : Finds wanting_file (BadLog 0)
-at_wanting_file = inr (none_wanting, record {
-  before = nothing_logged wanting_file none_wanting;
-  count = no_records wanting_file none_wanting;
-  good = accepted wanting_file none_wanting;
-  bad = inl (omega (arith, one_wanting), no_remove);
-})
+at_wanting_file = inr (
+  none_wanting,
+  record {
+    before = nothing_logged wanting_file none_wanting;
+    count = no_records wanting_file none_wanting;
+    good = accepted wanting_file none_wanting;
+    bad = inl (omega (arith, one_wanting), no_remove);
+  },
+)
 
 -- ---- a record that passes the used blocks
 
@@ -269,12 +272,15 @@ no_long command good =
     omega (arith, ap record_blocks same, two, good.logged.within, used_long)
 
 pub at_long_record : Finds long_record (BadLog 0)
-at_long_record = inr (none_long, record {
-  before = nothing_logged long_record none_long;
-  count = no_records long_record none_long;
-  good = accepted long_record none_long;
-  bad = inl (omega (arith, one_long), no_long);
-})
+at_long_record = inr (
+  none_long,
+  record {
+    before = nothing_logged long_record none_long;
+    count = no_records long_record none_long;
+    good = accepted long_record none_long;
+    bad = inl (omega (arith, one_long), no_long);
+  },
+)
 
 -- ---- a record that needs more than is free
 
@@ -316,9 +322,12 @@ no_create command good =
     omega (arith, parts.fits, ap need same, needs, sixteen_free, free_is full_area none_full)
 
 pub at_full_area : Finds full_area (BadLog 0)
-at_full_area = inr (none_full, record {
-  before = nothing_logged full_area none_full;
-  count = no_records full_area none_full;
-  good = accepted full_area none_full;
-  bad = inl (omega (arith, one_full), no_create);
-})
+at_full_area = inr (
+  none_full,
+  record {
+    before = nothing_logged full_area none_full;
+    count = no_records full_area none_full;
+    good = accepted full_area none_full;
+    bad = inl (omega (arith, one_full), no_create);
+  },
+)
