@@ -30,7 +30,7 @@ use Rattle.tree_model.specs.Path.{name_eq}
 use Rattle.image_model.specs.Planning.{DirectoryIsSeen}
 use Rattle.image_model.specs.Met.{Met, index, page, content, NoFaults}
 use Rattle.image_model.specs.Nodes.{is_bad_directory, is_slot_spelled, is_empty, has_twin, is_entry_name, AllBelow, blocks_in_node}
-use Rattle.image_model.specs.Spelled.{node_trees}
+use Rattle.image_model.specs.Planned.{node_trees}
 use Rattle.image_model.specs.Seen.{Held, seen, all_held, page_held}
 use Rattle.image_model.specs.Slots.{slot_pieces, slots_from, slots_of, inode_of, is_name, number_in}
 use Rattle.image_model.specs.Standing.{DirectoryStands}

@@ -30,7 +30,7 @@ use Rattle.image_model.specs.Plan.{IsPlanned, metas_of}
 use Rattle.image_model.specs.Point.{HasPoint, IsAssembled}
 use Rattle.image_model.specs.Met.{Met, index, points_at, metas, files, pointers_to, NoFaults}
 use Rattle.image_model.specs.Nodes.{has_tail, is_bad_directory, AllBelow, blocks_in_node}
-use Rattle.image_model.specs.Spelled.{InodesStand, HasSpellings, IsSpelled, used_from, node_trees, height_in}
+use Rattle.image_model.specs.Planned.{InodesStand, HasSpellings, IsSpelled, used_from, node_trees, height_in}
 use Rattle.image_model.specs.Seen.{Seen, seen, seen_from, all_held, page_held, content_held, counts_from}
 use Rattle.image_model.specs.Slots.{inode_of}
 use Rattle.image_model.specs.Stands.{Stands, node_of, layout_in, spot_of}

@@ -9,7 +9,7 @@ use Rattle.block_format.specs.declared.inode.Inode.TheVariants.{Unused, File, Di
 use Rattle.block_tree.specs.Tree.{index_at, nonzero, blocks_in}
 use Rattle.image_model.specs.Planning.{InodesAreSeen}
 use Rattle.image_model.specs.Met.{index, NoFaults}
-use Rattle.image_model.specs.Spelled.{node_trees, used_from}
+use Rattle.image_model.specs.Planned.{node_trees, used_from}
 use Rattle.image_model.specs.Seen.{seen}
 use Rattle.image_model.specs.Slots.{inode_of}
 use Rattle.image_model.specs.Walk.{is_used, walk}

@@ -18,7 +18,7 @@ use Rattle.tree_model.specs.Path.{Path, name_eq}
 use Rattle.image_model.proofs.Entries.{Entry, is_of, entry_at, leads, times_named, NamesOnce, entries_in, entries_of}
 use Rattle.image_model.specs.Met.{Met, index}
 use Rattle.image_model.specs.Nodes.{has_twin, is_bad_directory, is_entry_name, is_slot_spelled, number_named, names_of}
-use Rattle.image_model.specs.Spelled.{node_trees}
+use Rattle.image_model.specs.Planned.{node_trees}
 use Rattle.image_model.specs.Seen.{Seen, Held, seen_from, all_held, page_held}
 use Rattle.image_model.specs.Slots.{slot_pieces, slots_of, slots_from, inode_of, number_in, number_along}
 use Rattle.image_model.specs.Sound.{AllGood}

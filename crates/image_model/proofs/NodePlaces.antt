@@ -17,7 +17,7 @@ use Rattle.place_words.specs.Rising.{Rising}
 use Rattle.volume_model.specs.Places.{Places, Spot, places_of}
 use Rattle.image_model.specs.Met.{Met, index, page, content}
 use Rattle.image_model.specs.Walk.{is_used, inodes_from, blocks_inodes, nodes_of, nodes_at}
-use Rattle.image_model.specs.Spelled.{node_trees}
+use Rattle.image_model.specs.Planned.{node_trees}
 use Rattle.image_model.specs.Seen.{Held, all_held, content_held, page_held}
 use Rattle.image_model.specs.Slots.{inode_of}
 use Rattle.image_model.specs.Stands.{spot_of}

@@ -15,7 +15,7 @@ use Rattle.place_words.specs.Index.{index_blocks}
 use Rattle.place_words.specs.Different.{different}
 use Rattle.image_model.specs.Met.{Met, index, page, content, not_inode, meta_of, metas, NoFaults}
 use Rattle.image_model.specs.Nodes.{AllBelow, blocks_in_node}
-use Rattle.image_model.specs.Spelled.{node_trees}
+use Rattle.image_model.specs.Planned.{node_trees}
 use Rattle.image_model.specs.Walk.{is_directory, walk, nodes_at, node_met, blocks_met, blocks_inodes, nodes_of, root_met, entries_met}
 use Rattle.image_model.proofs.TreeLaws.{first_faults, other_faults, entries_good, tree_good}
 use Rattle.image_model.proofs.InodeWalk.{HasShapes, groups_of, inodes_good}

@@ -20,7 +20,7 @@ use Rattle.place_words.specs.Different.{is_among, Distinct}
 use Rattle.volume_model.specs.Places.{Spot, spot_cmp}
 use Rattle.image_model.specs.Met.{Met, index, page, content, NoFaults}
 use Rattle.image_model.specs.Standing.{some_block}
-use Rattle.image_model.specs.Spelled.{node_trees}
+use Rattle.image_model.specs.Planned.{node_trees}
 use Rattle.image_model.specs.Seen.{Held, seen, all_held, content_held}
 use Rattle.image_model.specs.Slots.{held_at, inode_of}
 use Rattle.image_model.specs.Stands.{spot_of}

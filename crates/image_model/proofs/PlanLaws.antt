@@ -18,7 +18,7 @@ use Rattle.place_words.specs.Rising.{Rising, AllUnder}
 use Rattle.image_model.specs.Planning.{PlanLeads}
 use Rattle.image_model.specs.Met.{Met, index, page, content, metas, NoFaults}
 use Rattle.image_model.specs.Plan.{taken_in}
-use Rattle.image_model.specs.Spelled.{node_trees, used_from}
+use Rattle.image_model.specs.Planned.{node_trees, used_from}
 use Rattle.image_model.specs.Seen.{seen}
 use Rattle.image_model.specs.Slots.{inode_of}
 use Rattle.image_model.specs.Stands.{layout_in}

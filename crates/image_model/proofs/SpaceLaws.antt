@@ -28,7 +28,7 @@ use Rattle.image_model.specs.Met.{Met, index, page, content, past, empty, not_in
 use Rattle.image_model.specs.Walk.{is_used, walk, nodes_at, blocks_inodes}
 use Rattle.image_model.specs.Findings.{free_in}
 use Rattle.image_model.specs.Nodes.{is_bad_directory, AllBelow, blocks_in_node}
-use Rattle.image_model.specs.Spelled.{node_trees}
+use Rattle.image_model.specs.Planned.{node_trees}
 use Rattle.image_model.specs.Seen.{Seen, Held, seen_from, all_held, content_held, page_held}
 use Rattle.image_model.specs.Slots.{held_at, inode_of}
 use Rattle.image_model.specs.Sound.{IsNamed, AllGood}

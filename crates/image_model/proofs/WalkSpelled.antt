@@ -15,7 +15,7 @@ use Rattle.block_tree.proofs.Spell.{pointers_small}
 use Rattle.place_words.specs.Different.{span, times, total}
 use Rattle.image_model.specs.Met.{Met, index, page, content, not_inode, metas}
 use Rattle.image_model.specs.Nodes.{AllBelow, blocks_in_node}
-use Rattle.image_model.specs.Spelled.{node_trees, used_from, height_in, IsSpelled, CountsStand}
+use Rattle.image_model.specs.Planned.{node_trees, used_from, height_in, IsSpelled, CountsStand}
 use Rattle.image_model.specs.Seen.{home_in, counts_from}
 use Rattle.image_model.specs.Walk.{is_used, is_directory, walk, nodes_at, node_met, root_met, blocks_met}
 use Rattle.image_model.proofs.InodeSpelled.{inodes_spelled}

@@ -9,7 +9,7 @@ use Rattle.block_format.specs.declared.inode.Inode.{Inode}
 use Rattle.block_format.specs.declared.inode.Inode.TheVariants.{Unused, Directory}
 use Rattle.tree_model.specs.Tree.{new_tree}
 use Rattle.volume_model.specs.Machine.{Stored}
-use Rattle.image_model.specs.Spelled.{CountsStand, inodes_bytes}
+use Rattle.image_model.specs.Planned.{CountsStand, inodes_bytes}
 use Rattle.block_tree.specs.Tree.{blocks_in}
 
 -- number 1 is an empty directory

@@ -7,7 +7,7 @@ use Rattle.block_format.specs.declared.inode.Inode.{Inode}
 use Rattle.block_tree.specs.Tree.{index_at, nonzero, blocks_in}
 use Rattle.place_words.specs.Different.{times, span}
 use Rattle.image_model.specs.Met.{metas}
-use Rattle.image_model.specs.Spelled.{IsSpelled, node_trees}
+use Rattle.image_model.specs.Planned.{IsSpelled, node_trees}
 use Rattle.image_model.specs.Seen.{seen}
 use Rattle.image_model.specs.Slots.{inode_of}
 

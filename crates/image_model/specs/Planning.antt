@@ -21,7 +21,7 @@ use Rattle.dir_slots.specs.Slots.{number_in as numbers_in}
 use Rattle.image_model.specs.Standing.{some_block, FileStands, DirectoryStands}
 use Rattle.image_model.specs.Plan.{IsPlanned, taken_in}
 use Rattle.place_words.specs.Different.{times}
-use Rattle.image_model.specs.Spelled.{IsSpelled, CountsStand, used_from, node_trees}
+use Rattle.image_model.specs.Planned.{IsSpelled, CountsStand, used_from, node_trees}
 use Rattle.image_model.specs.Walk.{walk, nodes_at}
 use Rattle.image_model.specs.Point.{HasPoint, IsAssembled}
 use Rattle.image_model.specs.Seen.{seen, counts_from}

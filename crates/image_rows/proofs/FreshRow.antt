@@ -3,7 +3,7 @@ use Rattle.std.proofs.Common.{◌≡◌, zero, suc, None, refl, arith}
 use Rattle.block_format.specs.Root.{root_in}
 use Rattle.block_tree.specs.Planned.{pointers_of}
 use Rattle.image_model.specs.Fresh.{fresh_count}
-use Rattle.image_model.specs.Spelled.{CountsStand, inodes_bytes}
+use Rattle.image_model.specs.Planned.{CountsStand, inodes_bytes}
 use Rattle.image_model.specs.Roots.{root_finding}
 use Rattle.image_model.proofs.RootExact.{roots_are_found}
 use Rattle.block_tree.specs.Tree.{blocks_in}
