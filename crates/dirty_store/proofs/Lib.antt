@@ -12,3 +12,4 @@ pub mod WidthLaws
 pub mod OneRuns
 pub mod StagedLaws
 pub mod MachineLaws
+pub mod OrderLaws

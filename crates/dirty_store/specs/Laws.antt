@@ -10,7 +10,7 @@ use Rattle.volume_model.specs.Machine.{Machine}
 use Rattle.volume_model.specs.Done.{is_cut, cut_by, done, all_done}
 use Rattle.dirty_store.specs.declared.effect.Effect.{Effect}
 use Rattle.dirty_store.specs.declared.effect.Touched.{Touched}
-use Rattle.dirty_store.specs.Overlay.{Overlay, cut_of, staged}
+use Rattle.dirty_store.specs.Overlay.{Overlay, IsOverlay, IsEffect, cut_of, staged}
 use Rattle.dirty_store.specs.Runs.{AreRunsOf}
 
 -- ---- blocks after a staging
@@ -33,6 +33,10 @@ pub record StagedBlocksAre : Type 0 where
       → e.cut_to ≡ Some blocks → blocks ≤ place → touched_with e.touched place ≡ None → find spot_cmp (e.number, place) (staged o e).blocks ≡ None
   pub others : (o : Overlay) (e : Effect) (spot : Spot)
       → is_cut (cut_of e) spot ≡ false → (spot.0 ≡ e.number → touched_with e.touched spot.1 ≡ None) → find spot_cmp spot (staged o e).blocks ≡ find spot_cmp spot o.blocks
+
+-- Staging an effect leaves an overlay in order.
+abbrev pub StagedIsInOrder : Type 0
+StagedIsInOrder = (o : Overlay) (e : Effect) → IsOverlay o → IsEffect e → IsOverlay (staged o e)
 
 -- ---- the machine
 
