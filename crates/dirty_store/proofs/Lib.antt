@@ -13,3 +13,4 @@ pub mod OneRuns
 pub mod StagedLaws
 pub mod MachineLaws
 pub mod OrderLaws
+pub mod SlotLaws

@@ -1,7 +1,5 @@
 -- Staging keeps an overlay in order.
-use Rattle.std.proofs.Common.{◌<◌, ◌≤◌, ℕ, suc, List, [], ◌∷◌, All, length, arith}
-use Rattle.std.specs.Prelude.{Option}
-use Rattle.std.specs.Ordering.{nat_cmp}
+use Rattle.std.proofs.Common.{◌<◌, ℕ, suc, List, [], ◌∷◌, All, arith}
 use Rattle.dirty_store.specs.declared.effect.Effect.{Effect}
 use Rattle.dirty_store.specs.declared.effect.Touched.{Touched}
 use Rattle.dirty_store.specs.declared.effect.SlotChange.{SlotChange}
