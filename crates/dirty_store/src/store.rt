@@ -32,10 +32,11 @@ pub struct DirtyStore {
 
 impl Model for DirtyStore {
     ghost use Rattle.std.specs.Prelude.{vec_capacity};
-    ghost use Rattle.dirty_store.specs.Entries.{unboxed};
-    ghost use Rattle.dirty_store.specs.Undo.{Held, IsKept};
+    ghost use Rattle.dirty_store.specs.Inside.{unboxed};
+    ghost use Rattle.dirty_store.specs.Undo.{Store};
+    ghost use Rattle.dirty_store.specs.Inside.{IsKept};
 
-    ghost Value = { Held };
+    ghost Value = { Store };
 
     ghost view = { λ s. record {
       overlay = record { blocks = unboxed s.blocks.items; nodes = s.nodes.entries; slots = unboxed s.slots.items };
