@@ -1,11 +1,6 @@
 -- Lists of what stands at spots, in the order of the spots, each spot once. A spot is a node's number and a place in the node.
-use Rattle.std.specs.Prelude.{◌≡◌, ◌<◌, ◌≤◌, ℕ, suc, ◌+◌, IsTrue, not, List, [], ◌∷◌, length, slice_index_or, filter, map, if◌then◌else◌, Option, Some, None, is_some}
-use Rattle.std.specs.List.{slice_range, remove_range}
+use Rattle.std.specs.Prelude.{◌<◌, ℕ, ◌+◌, IsTrue, not, List, [], ◌∷◌, filter, if◌then◌else◌, Option, Some, None, is_some}
 use Rattle.std.specs.Option.{option_map}
-use Rattle.std.specs.Ordering.{is_gt}
-use Rattle.std.specs.declared.cmp.Ordering.TheVariants.{Less, Greater}
-use Rattle.std.specs.declared.boxed.Box.{Box}
-use Rattle.std.specs.declared.alloc.Global.{Global}
 use Rattle.std.specs.FinMap.{put, is_sorted}
 use Rattle.volume_model.specs.Places.{Spot, spot_cmp, spot_eq}
 use Rattle.volume_model.specs.Done.{Cut, is_cut}

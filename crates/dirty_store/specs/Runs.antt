@@ -1,5 +1,5 @@
 -- Places as runs.
-use Rattle.std.specs.Prelude.{◌≡◌, ◌≢◌, ◌≤◌, ℕ, ◌+◌, Bool, false, nat_eq, List, [], ◌∷◌}
+use Rattle.std.specs.Prelude.{◌≡◌, ◌≢◌, ◌≤◌, ℕ, ◌+◌, List, [], ◌∷◌}
 use Rattle.std.specs.List.{flat_map}
 use Rattle.vol_numbers.specs.declared.runs.Run.{Run}
 use Rattle.place_words.specs.Different.{span}

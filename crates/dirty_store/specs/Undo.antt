@@ -1,15 +1,13 @@
 -- What a staging replaced, and how it is put back.
-use Rattle.std.specs.Prelude.{ℕ, ◌+◌, ◌≤◌, List, length, Option, Some, None, IsSome, IsTrue}
+use Rattle.std.specs.Prelude.{ℕ, ◌+◌, ◌≤◌, List, length, Option, Some, None, IsSome}
 use Rattle.std.specs.Ordering.{nat_cmp}
-use Rattle.std.specs.declared.alloc.Global.{Global}
-use Rattle.std.specs.declared.boxed.Box.{Box}
-use Rattle.std.specs.FinMap.{put, is_sorted}
+use Rattle.std.specs.FinMap.{put}
 use Rattle.std.specs.Map.{remove_entry}
 use Rattle.std.specs.BTreeMap.{is_at}
 use Rattle.vol_numbers.specs.declared.block.Block.{Block}
 use Rattle.block_format.specs.declared.slot.Slot.{Slot}
 use Rattle.dirty_store.specs.declared.node_change.NodeChange.{NodeChange}
-use Rattle.dirty_store.specs.Entries.{Entries, AreKept, put_back, there}
+use Rattle.dirty_store.specs.Entries.{Entries, put_back, there}
 use Rattle.dirty_store.specs.Overlay.{Overlay, node_of}
 
 -- A store: what is staged, and how many dirty blocks and staged slots it holds without more memory.
