@@ -9,7 +9,8 @@ use Rattle.std.proofs.lemmas.List.Filters.{length-filter_both}
 use Rattle.volume_model.specs.Places.{Spot, spot_cmp, spot_eq}
 use Rattle.volume_model.specs.Done.{Cut, is_cut}
 use Rattle.volume_model.proofs.Order.{T_true, true_T, spot_total, spot_tie}
-use Rattle.dirty_store.specs.Entries.{Entries, without, uncut, cut_away, set_back, put_back, all_there, there}
+use Rattle.dirty_store.specs.Entries.{Entries, without, uncut, cut_away, set_back, put_back, there}
+use Rattle.dirty_store.specs.Inside.{all_there}
 use Rattle.dirty_store.proofs.Places.{equal_of, spot_eq_is}
 
 abbrev pub same : Spot → Spot → Bool

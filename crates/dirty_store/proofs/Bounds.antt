@@ -10,7 +10,8 @@ use Rattle.std.proofs.lemmas.Bool.Decides.{nat_tests}
 use Rattle.volume_model.specs.Places.{Spot, spot_cmp}
 use Rattle.volume_model.specs.Done.{is_cut}
 use Rattle.volume_model.proofs.Order.{first_of, second_of}
-use Rattle.dirty_store.specs.Entries.{Entries, AreWithin, AreKept, AreBoundsOf, count_before}
+use Rattle.dirty_store.specs.Entries.{Entries, AreWithin, AreKept}
+use Rattle.dirty_store.specs.Inside.{AreBoundsOf, count_before}
 use Rattle.dirty_store.proofs.Search.{behind}
 
 -- ---- the tests

@@ -1,16 +1,16 @@
 -- Entries and what is in their boxes: each step commutes with looking into the boxes.
 use Rattle.std.proofs.Common.{◌≡◌, ℕ, ◌+◌, Bool, true, false, cond, List, [], ◌∷◌, length, map, filter, max, refl, sym, ap, ◌∙◌, arith}
-use Rattle.std.specs.Prelude.{not, nat_eq, Option, Some, None, is_some}
+use Rattle.std.specs.Prelude.{◌&&◌, not, nat_eq, Option, Some, None, is_some}
 use Rattle.std.specs.Option.{option_map}
-use Rattle.std.specs.Ordering.{eq_by_cmp}
+use Rattle.std.specs.Ordering.{eq_by_cmp, is_lt}
 use Rattle.std.specs.declared.cmp.Ordering.{Ordering}
 use Rattle.std.specs.declared.cmp.Ordering.TheVariants.{Less, Equal, Greater}
-use Rattle.std.specs.FinMap.{find, put}
-use Rattle.std.specs.FinMap.Entries.{by_order}
+use Rattle.std.specs.FinMap.{find, put, is_sorted}
+use Rattle.std.specs.FinMap.Entries.{by_order, below_all}
 use Rattle.volume_model.specs.Places.{Spot, spot_cmp, spot_eq}
 use Rattle.volume_model.specs.Done.{Cut, is_cut}
 use Rattle.dirty_store.specs.Overlay.{width_of, dirty_places}
-use Rattle.dirty_store.specs.Entries.{Entries, uncut, all_put, set_back, put_back, there}
+use Rattle.dirty_store.specs.Entries.{Entries, AreWithin, AreKept, uncut, all_put, set_back, put_back, there}
 
 module _ {A B : Type 0} (g : A → B) where
   -- each entry by what g gives
@@ -93,3 +93,18 @@ module _ {A B : Type 0} (g : A → B) where
           ≡ map (λ e. e.0.1) (cond b (e ∷ filter (λ e. nat_eq e.0.0 number) es) (filter (λ e. nat_eq e.0.0 number) es))
       by true more = ap (λ (l : List ℕ). e.0.1 ∷ l) more
       by false more = more
+
+  below-each : (s : Spot) (es : Entries A) → below_all spot_cmp s (each es) ≡ below_all spot_cmp s es
+  below-each s [] = refl
+  below-each s (e ∷ es) = ap (λ b. is_lt (spot_cmp s e.0) && b) (below-each s es)
+
+  sorted-each : (es : Entries A) → is_sorted spot_cmp (each es) ≡ is_sorted spot_cmp es
+  sorted-each [] = refl
+  sorted-each (e ∷ es) = λ i. below-each e.0 es i && sorted-each es i
+
+  within-each : (es : Entries A) → AreWithin es → AreWithin (each es)
+  within-each [] within = tt
+  within-each (e ∷ es) within = (within.0, within-each es within.1)
+
+  pub each_kept : (es : Entries A) → AreKept es → AreKept (each es)
+  each_kept es kept = record { in_order = sorted-each es ∙ kept.in_order; within = within-each es kept.within }

@@ -8,7 +8,8 @@ use Rattle.std.specs.FinMap.{is_sorted}
 use Rattle.std.specs.List.Sorted.{IsNonDecreasingBy, IsBinarySearchResult, IsSearchInRange}
 use Rattle.volume_model.specs.Places.{Spot, spot_cmp}
 use Rattle.volume_model.proofs.Order.{first_of, second_of, spot_total, spot_tie}
-use Rattle.dirty_store.specs.Entries.{Entries, IsPlaceOf, IsGapFor}
+use Rattle.dirty_store.specs.Entries.{Entries}
+use Rattle.dirty_store.specs.Inside.{IsPlaceOf, IsGapFor}
 use Rattle.dirty_store.proofs.Search.{less_of, less_greater, greater_less, below_at}
 
 at_most : (o : Ordering) → ordering_index o ≤ 2

@@ -7,7 +7,8 @@ use Rattle.std.specs.FinMap.{put, is_sorted}
 use Rattle.std.specs.FinMap.Entries.{by_order}
 use Rattle.volume_model.specs.Places.{Spot, spot_cmp, spot_eq}
 use Rattle.volume_model.specs.Done.{Cut}
-use Rattle.dirty_store.specs.Entries.{Entries, AreWithin, AreKept, uncut, cut_away, all_put, set_back, all_there, there}
+use Rattle.dirty_store.specs.Entries.{Entries, AreWithin, AreKept, uncut, cut_away, all_put, set_back, there}
+use Rattle.dirty_store.specs.Inside.{all_there}
 use Rattle.dirty_store.proofs.BackLaws.{set_back_sorted, uncut_sorted, length-put_found}
 
 module _ {T : Type 0} where

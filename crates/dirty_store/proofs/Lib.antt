@@ -12,3 +12,5 @@ pub mod WidthLaws
 pub mod OneRuns
 pub mod StagedLaws
 pub mod MachineLaws
+pub mod OrderLaws
+pub mod SlotLaws

@@ -11,7 +11,8 @@ use Rattle.std.specs.FinMap.Entries.{below_all, by_order}
 use Rattle.std.proofs.lemmas.Bool.Decides.{nat_tests}
 use Rattle.volume_model.specs.Places.{Spot, spot_cmp, spot_eq}
 use Rattle.volume_model.proofs.Order.{first_of, second_of, spot_total, spot_tie}
-use Rattle.dirty_store.specs.Entries.{Entries, IsPlaceOf, IsGapFor, without}
+use Rattle.dirty_store.specs.Entries.{Entries, without}
+use Rattle.dirty_store.specs.Inside.{IsPlaceOf, IsGapFor}
 use Rattle.dirty_store.proofs.Search.{less_of, less_greater, below_at}
 
 pub equal_of : (o : Ordering) → is_eq o ≡ true → o ≡ Equal

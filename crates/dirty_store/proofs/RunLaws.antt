@@ -6,7 +6,8 @@ use Rattle.std.proofs.lemmas.Bool.{eqb-true}
 use Rattle.std.proofs.lemmas.Bool.Decides.{nat_tests}
 use Rattle.vol_numbers.specs.declared.runs.Run.{Run}
 use Rattle.place_words.specs.Different.{span}
-use Rattle.dirty_store.specs.Runs.{places_in, AreLongest, AreRunsSoFar, AreRunsWithin, ends_at, lengthened}
+use Rattle.dirty_store.specs.Runs.{places_in, AreLongest}
+use Rattle.dirty_store.specs.Inside.{AreRunsSoFar, AreRunsWithin, ends_at, lengthened}
 use Rattle.dirty_store.proofs.LastLaws.{last, with_last}
 
 -- ---- the last run

@@ -8,7 +8,8 @@ use Rattle.std.specs.FinMap.Entries.{below_all}
 use Rattle.std.specs.List.Sorted.{IsPartitionedBy}
 use Rattle.volume_model.specs.Places.{Spot, spot_cmp}
 use Rattle.volume_model.proofs.Order.{first_of, second_of, spot_total}
-use Rattle.dirty_store.specs.Entries.{Entries, count_before}
+use Rattle.dirty_store.specs.Entries.{Entries}
+use Rattle.dirty_store.specs.Inside.{count_before}
 
 pub less_of : (o : Ordering) → is_lt o ≡ true → o ≡ Less
 less_of Less e = refl

@@ -1,11 +1,6 @@
 -- Lists of what stands at spots, in the order of the spots, each spot once. A spot is a node's number and a place in the node.
-use Rattle.std.specs.Prelude.{◌≡◌, ◌<◌, ◌≤◌, ℕ, suc, ◌+◌, IsTrue, not, List, [], ◌∷◌, length, slice_index_or, filter, map, if◌then◌else◌, Option, Some, None, is_some}
-use Rattle.std.specs.List.{slice_range, remove_range}
+use Rattle.std.specs.Prelude.{◌<◌, ℕ, ◌+◌, IsTrue, not, List, [], ◌∷◌, filter, if◌then◌else◌, Option, Some, None, is_some}
 use Rattle.std.specs.Option.{option_map}
-use Rattle.std.specs.Ordering.{is_gt}
-use Rattle.std.specs.declared.cmp.Ordering.TheVariants.{Less, Greater}
-use Rattle.std.specs.declared.boxed.Box.{Box}
-use Rattle.std.specs.declared.alloc.Global.{Global}
 use Rattle.std.specs.FinMap.{put, is_sorted}
 use Rattle.volume_model.specs.Places.{Spot, spot_cmp, spot_eq}
 use Rattle.volume_model.specs.Done.{Cut, is_cut}
@@ -58,40 +53,3 @@ put_back (e ∷ es) entries = set_back e.0 e.1 (put_back es entries)
 abbrev pub there : {T : Type 0} → Entries (Option T) → ℕ
 there [] = 0
 there (e ∷ es) = (if is_some e.1 then 1 else 0) + there es
-
--- ---- for private functions
-
--- what boxed entries have in their boxes
-abbrev pub unboxed : {T : Type 0} → Entries (Box T Global) → Entries T
-unboxed entries = map (λ e. (e.0, e.1.value)) entries
-
--- the same of what was there
-abbrev pub was_unboxed : {T : Type 0} → Entries (Option (Box T Global)) → Entries (Option T)
-was_unboxed was = map (λ e. (e.0, option_map (λ b. b.value) e.1)) was
-
--- A spot stands at this place among entries.
-pub record IsPlaceOf {T : Type 0} (spot : Spot) (entries : Entries T) (place : ℕ) : Type 0 where
-  pub within : place < length entries
-  pub same : (d : Spot × T) → (slice_index_or entries place d).0 ≡ spot
-
--- A spot has no entry, and would stand at this place.
-pub record IsGapFor {T : Type 0} (spot : Spot) (entries : Entries T) (place : ℕ) : Type 0 where
-  pub within : place ≤ length entries
-  pub before : (k : ℕ) (d : Spot × T) → k < place → spot_cmp spot (slice_index_or entries k d).0 ≡ Greater
-  pub behind : (k : ℕ) (d : Spot × T) → place ≤ k → k < length entries → spot_cmp spot (slice_index_or entries k d).0 ≡ Less
-
--- how many entries at the front are before a spot
-abbrev pub count_before : {T : Type 0} → Spot → Entries T → ℕ
-count_before spot [] = 0
-count_before spot (e ∷ es) = if is_gt (spot_cmp spot e.0) then suc (count_before spot es) else 0
-
--- These are the bounds of a node's entries from a place on.
-pub record AreBoundsOf {T : Type 0} (number from : ℕ) (entries : Entries T) (start end : ℕ) : Type 0 where
-  pub ordered : start ≤ end
-  pub within : end ≤ length entries
-  pub inside : slice_range entries start end ≡ cut_away (cut_at number (Some from)) entries
-  pub outside : remove_range entries start end ≡ uncut (cut_at number (Some from)) entries
-
--- entries as what a cut replaced
-abbrev pub all_there : {T : Type 0} → Entries T → Entries (Option T)
-all_there entries = map (λ e. (e.0, Some e.1)) entries

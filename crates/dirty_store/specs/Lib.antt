@@ -3,3 +3,4 @@ pub mod Overlay
 pub mod Undo
 pub mod Runs
 pub mod Laws
+pub mod Inside

@@ -1,8 +1,8 @@
 -- What the accepted commands since the last point have staged.
-use Rattle.std.specs.Prelude.{ℕ, ◌+◌, ◌≤◌, ◌<◌, List, [], ◌∷◌, All, filter, map, max, min, nat_eq, if◌then◌else◌, Option, Some, None}
+use Rattle.std.specs.Prelude.{ℕ, ◌+◌, ◌≤◌, ◌<◌, List, [], ◌∷◌, All, filter, map, max, min, nat_eq, if◌then◌else◌, Option, Some, None, IsTrue}
 use Rattle.std.specs.Option.{ForSome}
 use Rattle.std.specs.Ordering.{nat_cmp}
-use Rattle.std.specs.FinMap.{find, put}
+use Rattle.std.specs.FinMap.{find, put, is_sorted}
 use Rattle.vol_numbers.specs.declared.block.Block.{Block}
 use Rattle.block_format.specs.declared.inode.Inode.{Inode}
 use Rattle.block_format.specs.declared.slot.Slot.{Slot}
@@ -11,7 +11,7 @@ use Rattle.dirty_store.specs.declared.effect.Effect.{Effect}
 use Rattle.dirty_store.specs.declared.effect.Touched.{Touched}
 use Rattle.dirty_store.specs.declared.effect.SlotChange.{SlotChange}
 use Rattle.dirty_store.specs.declared.node_change.NodeChange.{NodeChange}
-use Rattle.dirty_store.specs.Entries.{Entries, cut_at, uncut, all_put}
+use Rattle.dirty_store.specs.Entries.{Entries, AreKept, cut_at, uncut, all_put}
 
 -- The dirty places with their blocks, what is staged of each node by its number, and the staged slots by directory and slot. Each is in order.
 pub record Overlay : Type 0 where
@@ -22,6 +22,12 @@ pub record Overlay : Type 0 where
 -- nothing is staged
 abbrev pub clean : Overlay
 clean = record { blocks = []; nodes = []; slots = [] }
+
+-- Each part is in order, with each number or spot once, and within the greatest size.
+pub record IsOverlay (o : Overlay) : Type 0 where
+  pub blocks : AreKept o.blocks
+  pub nodes : IsTrue (is_sorted nat_cmp o.nodes)
+  pub slots : AreKept o.slots
 
 -- within the greatest sizes of a file and a directory
 pub record IsEffect (e : Effect) : Type 0 where

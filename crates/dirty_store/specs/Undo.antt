@@ -1,19 +1,17 @@
 -- What a staging replaced, and how it is put back.
-use Rattle.std.specs.Prelude.{ℕ, ◌+◌, ◌≤◌, List, length, Option, Some, None, IsSome, IsTrue}
+use Rattle.std.specs.Prelude.{ℕ, ◌+◌, ◌≤◌, List, length, Option, Some, None, IsSome}
 use Rattle.std.specs.Ordering.{nat_cmp}
-use Rattle.std.specs.declared.alloc.Global.{Global}
-use Rattle.std.specs.declared.boxed.Box.{Box}
-use Rattle.std.specs.FinMap.{put, is_sorted}
+use Rattle.std.specs.FinMap.{put}
 use Rattle.std.specs.Map.{remove_entry}
 use Rattle.std.specs.BTreeMap.{is_at}
 use Rattle.vol_numbers.specs.declared.block.Block.{Block}
 use Rattle.block_format.specs.declared.slot.Slot.{Slot}
 use Rattle.dirty_store.specs.declared.node_change.NodeChange.{NodeChange}
-use Rattle.dirty_store.specs.Entries.{Entries, AreKept, put_back, there}
+use Rattle.dirty_store.specs.Entries.{Entries, put_back, there}
 use Rattle.dirty_store.specs.Overlay.{Overlay, node_of}
 
 -- A store: what is staged, and how many dirty blocks and staged slots it holds without more memory.
-pub record Held : Type 0 where
+pub record Store : Type 0 where
   pub overlay : Overlay
   pub block_room : ℕ
   pub slot_room : ℕ
@@ -39,20 +37,12 @@ undone o r = record {
 }
 
 -- What was replaced can be put back without memory: there is room for it, and its node is staged.
-pub record IsUndoable (h : Held) (r : Replaced) : Type 0 where
+pub record IsUndoable (h : Store) (r : Replaced) : Type 0 where
   pub blocks : length h.overlay.blocks + there r.blocks ≤ h.block_room
   pub slots : length h.overlay.slots + there r.slots ≤ h.slot_room
   pub node : IsSome (node_of h.overlay r.number)
 
 -- no room is lost
-pub record KeepsRoom (old new : Held) : Type 0 where
+pub record KeepsRoom (old new : Store) : Type 0 where
   pub blocks : old.block_room ≤ new.block_room
   pub slots : old.slot_room ≤ new.slot_room
-
--- ---- for private functions
-
--- what is kept of a store: each part in order
-pub record IsKept (blocks : Entries (Box Block Global)) (nodes : List (ℕ × NodeChange)) (slots : Entries (Box Slot Global)) : Type 0 where
-  pub kept_blocks : AreKept blocks
-  pub sorted_nodes : IsTrue (is_sorted nat_cmp nodes)
-  pub kept_slots : AreKept slots

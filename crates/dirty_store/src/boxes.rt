@@ -1,6 +1,7 @@
 //! Staged blocks and slots in boxes, so that an entry is small and a block is moved once.
 ghost use Rattle.std.specs.Prelude.{◌≡◌, ◌<◌, ◌++◌, ◌∷◌, [], All, IfOk, OnOk};
-ghost use Rattle.dirty_store.specs.Entries.{AreWithin, unboxed};
+ghost use Rattle.dirty_store.specs.Entries.{AreWithin};
+ghost use Rattle.dirty_store.specs.Inside.{unboxed};
 ghost use Rattle.dirty_store.specs.Overlay.{touched_entries, slot_entries};
 
 use crate::effect::{SlotChange, SlotChangeList, Touched, TouchedList};

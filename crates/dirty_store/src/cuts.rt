@@ -1,7 +1,8 @@
 //! The entries of one node from a place on, and how they are cut away.
 ghost use Rattle.std.specs.Prelude.{◌≡◌, ◌≤◌, ◌<◌, ◌+◌, ◌++◌, ◌∷◌, [], Some, length, vec_len, vec_capacity};
 ghost use Rattle.std.specs.Option.{ForSome};
-ghost use Rattle.dirty_store.specs.Entries.{AreKept, AreBoundsOf, cut_at, cut_away, uncut, all_there};
+ghost use Rattle.dirty_store.specs.Entries.{AreKept, cut_at, cut_away, uncut};
+ghost use Rattle.dirty_store.specs.Inside.{AreBoundsOf, all_there};
 
 use crate::entries::{Spot, count_before};
 use std::ops::Range;

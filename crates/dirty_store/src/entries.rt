@@ -4,7 +4,8 @@ ghost use Rattle.std.specs.Option.{option_copied};
 ghost use Rattle.std.specs.List.{insert};
 ghost use Rattle.std.specs.FinMap.{find, put, is_sorted};
 ghost use Rattle.volume_model.specs.Places.{spot_cmp};
-ghost use Rattle.dirty_store.specs.Entries.{IsPlaceOf, IsGapFor, count_before, without};
+ghost use Rattle.dirty_store.specs.Entries.{without};
+ghost use Rattle.dirty_store.specs.Inside.{IsPlaceOf, IsGapFor, count_before};
 
 use std::cmp::Ordering;
 use std::mem;

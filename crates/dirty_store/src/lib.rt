@@ -14,7 +14,10 @@ mod staging;
 mod store;
 
 pub use effect::{Effect, SlotChange, SlotChangeList, Touched, TouchedList};
-pub use laws::{dirty_are_the_machines, one_list_of_runs, staged_blocks_are};
+pub use laws::{
+    dirty_are_the_machines, one_list_of_runs, staged_blocks_are, staged_is_in_order,
+    staged_nodes_are, staged_slots_are,
+};
 pub use node_change::NodeChange;
 pub use staged::Staged;
 pub use store::DirtyStore;

@@ -1,7 +1,8 @@
 //! Places as runs.
 ghost use Rattle.std.specs.Prelude.{◌≡◌, ◌<◌, ◌++◌, ◌∷◌, [], ℕ, List, IfOk, OnOk, map};
 ghost use Rattle.dirty_store.specs.Entries.{AreWithin};
-ghost use Rattle.dirty_store.specs.Runs.{AreRunsOf, AreRunsSoFar, AreRunsWithin, ends_at, lengthened};
+ghost use Rattle.dirty_store.specs.Runs.{AreRunsOf};
+ghost use Rattle.dirty_store.specs.Inside.{AreRunsSoFar, AreRunsWithin, ends_at, lengthened};
 
 use crate::entries::Spot;
 use std::alloc::{AllocError, Global};

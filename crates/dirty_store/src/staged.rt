@@ -15,7 +15,8 @@ pub struct Staged {
 }
 
 impl Model for Staged {
-    ghost use Rattle.dirty_store.specs.Entries.{AreWithin, was_unboxed};
+    ghost use Rattle.dirty_store.specs.Entries.{AreWithin};
+    ghost use Rattle.dirty_store.specs.Inside.{was_unboxed};
     ghost use Rattle.dirty_store.specs.Undo.{Replaced};
 
     ghost Value = { Replaced };

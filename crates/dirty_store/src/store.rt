@@ -3,7 +3,7 @@ ghost use Rattle.std.specs.Prelude.{◌≡◌, IfOk, OnOk, OnErr};
 ghost use Rattle.std.specs.Option.{option_copied, option_map};
 ghost use Rattle.std.specs.FinMap.{find};
 ghost use Rattle.volume_model.specs.Places.{spot_cmp};
-ghost use Rattle.dirty_store.specs.Overlay.{IsEffect, clean, staged, node_of, least_cut, dirty_places, width_of};
+ghost use Rattle.dirty_store.specs.Overlay.{IsEffect, IsOverlay, clean, staged, node_of, least_cut, dirty_places, width_of};
 ghost use Rattle.dirty_store.specs.Undo.{IsUndoable, KeepsRoom, undone};
 ghost use Rattle.dirty_store.specs.Runs.{AreRunsOf};
 
@@ -32,10 +32,11 @@ pub struct DirtyStore {
 
 impl Model for DirtyStore {
     ghost use Rattle.std.specs.Prelude.{vec_capacity};
-    ghost use Rattle.dirty_store.specs.Entries.{unboxed};
-    ghost use Rattle.dirty_store.specs.Undo.{Held, IsKept};
+    ghost use Rattle.dirty_store.specs.Inside.{unboxed};
+    ghost use Rattle.dirty_store.specs.Undo.{Store};
+    ghost use Rattle.dirty_store.specs.Inside.{IsKept};
 
-    ghost Value = { Held };
+    ghost Value = { Store };
 
     ghost view = { λ s. record {
       overlay = record { blocks = unboxed s.blocks.items; nodes = s.nodes.entries; slots = unboxed s.slots.items };
@@ -147,7 +148,8 @@ impl DirtyStore {
 
     /// One more than the greatest slot of a directory that is staged, 0 where there is none.
     pub fn width(&self, directory: InoNo) -> u32
-        ensures { result ≡ width_of self.now.overlay.slots directory }
+        ensures is { result ≡ width_of self.now.overlay.slots directory }
+        ensures in_order { IsOverlay self.now.overlay }
     {
         let bounds = bounds_of(&self.slots, directory, 0);
         match self.slots[bounds].last() {

@@ -1,6 +1,7 @@
 use Rattle.std.proofs.Common.{◌≡◌, ◌++◌}
 use Rattle.std.specs.Vec.Iter.{into_iter_items}
-use Rattle.dirty_store.specs.Entries.{AreWithin, unboxed}
+use Rattle.dirty_store.specs.Entries.{AreWithin}
+use Rattle.dirty_store.specs.Inside.{unboxed}
 use Rattle.dirty_store.specs.Overlay.{slot_entries}
 use Rattle.dirty_store.proofs.boxes.boxed_slots.Given as goal
 

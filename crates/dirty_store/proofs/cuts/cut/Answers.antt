@@ -1,6 +1,7 @@
 use Rattle.std.proofs.Common.{sym, ap, ◌∙◌, ◌++◌}
 use Rattle.std.proofs.lemmas.List.{append-nil}
-use Rattle.dirty_store.specs.Entries.{cut_at, cut_away, uncut, all_there}
+use Rattle.dirty_store.specs.Entries.{cut_at, cut_away, uncut}
+use Rattle.dirty_store.specs.Inside.{all_there}
 use Rattle.dirty_store.proofs.KeptLaws.{cut_away-none, uncut-none}
 use Rattle.dirty_store.proofs.cuts.cut.Goals as goal
 

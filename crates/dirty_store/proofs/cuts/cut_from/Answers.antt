@@ -3,7 +3,8 @@ use Rattle.std.specs.Prelude.{Some}
 use Rattle.std.proofs.lemmas.List.{append-nil, map-append}
 use Rattle.std.specs.List.{slice_range}
 use Rattle.std.specs.Vec.Iter.{drain_items}
-use Rattle.dirty_store.specs.Entries.{all_there, cut_away, cut_at}
+use Rattle.dirty_store.specs.Entries.{cut_away, cut_at}
+use Rattle.dirty_store.specs.Inside.{all_there}
 use Rattle.dirty_store.proofs.cuts.cut_from.Goals as goal
 
 pub loop-spot-init : goal.loop-spot-init

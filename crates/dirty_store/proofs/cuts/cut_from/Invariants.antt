@@ -1,6 +1,6 @@
 use Rattle.std.proofs.Common.{◌≡◌, ◌≤◌, ◌+◌, ◌++◌, length, vec_len, vec_capacity}
 use Rattle.std.specs.Vec.Iter.{drain_items}
-use Rattle.dirty_store.specs.Entries.{all_there}
+use Rattle.dirty_store.specs.Inside.{all_there}
 use Rattle.dirty_store.proofs.cuts.cut_from.Given as goal
 
 abbrev pub invariant-loop-spot : goal.invariant-loop-spot

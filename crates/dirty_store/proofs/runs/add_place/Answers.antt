@@ -1,6 +1,6 @@
 use Rattle.std.proofs.Common.{◌≡◌, ◌++◌, ◌∷◌, [], List, sym, ap, ◌∙◌, subst, true, false}
 use Rattle.vol_numbers.specs.declared.runs.Run.{Run}
-use Rattle.dirty_store.specs.Runs.{AreRunsSoFar, ends_at}
+use Rattle.dirty_store.specs.Inside.{AreRunsSoFar, ends_at}
 use Rattle.dirty_store.proofs.RunLaws.{longer_are, more_are}
 use Rattle.dirty_store.proofs.runs.add_place.Goals as goal
 

@@ -1,6 +1,6 @@
 use Rattle.std.proofs.Common.{◌<◌, ◌++◌, ◌∷◌, [], sym, ap, subst, ◌∙◌, map, take}
 use Rattle.std.proofs.lemmas.List.{take_more, map-append}
-use Rattle.dirty_store.specs.Runs.{AreRunsSoFar}
+use Rattle.dirty_store.specs.Inside.{AreRunsSoFar}
 use Rattle.dirty_store.proofs.KeptLaws.{within_at}
 use Rattle.dirty_store.proofs.runs.runs_of.Goals as goal
 

@@ -1,5 +1,5 @@
 use Rattle.std.proofs.Common.{map, take}
-use Rattle.dirty_store.specs.Runs.{AreRunsSoFar}
+use Rattle.dirty_store.specs.Inside.{AreRunsSoFar}
 use Rattle.dirty_store.proofs.runs.runs_of.Given as goal
 
 abbrev pub invariant-loop-entry : goal.invariant-loop-entry

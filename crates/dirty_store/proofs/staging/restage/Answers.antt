@@ -1,5 +1,6 @@
 use Rattle.std.proofs.Common.{◌++◌, sym, ap, ◌∙◌, subst, length, arith}
-use Rattle.dirty_store.specs.Entries.{AreKept, AreWithin, cut_at, cut_away, uncut, put_back, all_there, there}
+use Rattle.dirty_store.specs.Entries.{AreKept, AreWithin, cut_at, cut_away, uncut, put_back, there}
+use Rattle.dirty_store.specs.Inside.{all_there}
 use Rattle.dirty_store.proofs.BackLaws.{put_back-cut, there-all, length-cut}
 use Rattle.dirty_store.proofs.KeptLaws.{uncut_kept, filter_within, there_within}
 use Rattle.dirty_store.proofs.staging.restage.Goals as goal

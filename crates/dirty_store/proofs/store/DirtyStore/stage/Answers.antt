@@ -5,7 +5,8 @@ use Rattle.std.specs.Cmp.{nat_cmp_total, tied_itself}
 use Rattle.std.specs.FinMap.{is_sorted, find}
 use Rattle.std.specs.FinMap.Entries.{find-put}
 use Rattle.dirty_store.specs.declared.node_change.NodeChange.{NodeChange}
-use Rattle.dirty_store.specs.Entries.{unboxed, uncut, all_put, cut_at}
+use Rattle.dirty_store.specs.Entries.{uncut, all_put, cut_at}
+use Rattle.dirty_store.specs.Inside.{unboxed}
 use Rattle.dirty_store.specs.Overlay.{staged, touched_entries, slot_entries, node_after}
 use Rattle.dirty_store.specs.Undo.{node_back}
 use Rattle.dirty_store.proofs.BoxLaws.{each-all_put, each-uncut, each-put_back, length-each, there-each}

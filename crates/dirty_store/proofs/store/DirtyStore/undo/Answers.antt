@@ -1,7 +1,8 @@
 use Rattle.std.proofs.Common.{◌≡◌, sym, ap, ◌∙◌, subst, length, true, arith}
 use Rattle.std.specs.Ordering.{nat_cmp}
 use Rattle.std.specs.FinMap.{is_sorted}
-use Rattle.dirty_store.specs.Entries.{unboxed, there}
+use Rattle.dirty_store.specs.Entries.{there}
+use Rattle.dirty_store.specs.Inside.{unboxed}
 use Rattle.dirty_store.specs.Undo.{undone}
 use Rattle.dirty_store.proofs.BoxLaws.{each-put_back, length-each, there-each}
 use Rattle.dirty_store.proofs.NodeLaws.{node_back_sorted}
