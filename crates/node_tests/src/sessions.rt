@@ -7,7 +7,7 @@ use node_table::{Change, FoundNode, NodeInfo, NodeTable};
 use std::alloc::{AllocError, Global};
 use std::test::Fail;
 use tree_model::{Command, Kind, Refusal, Reply};
-use vol_numbers::PageList;
+use vol_numbers::{Name, PageList};
 
 /// What a command comes to.
 #[derive(Clone, Copy)]
@@ -206,8 +206,7 @@ fn session(alloc: Global) -> Result<bool, Fail> {
 
 fn one_entry(alloc: Global) -> Result<Directory, Fail> {
     let mut directory = Directory::read(alloc, &PageList::new(alloc), 0)?;
-    let path = letters(alloc, b"f")?;
-    directory.add(&path.names()[0], 7)?;
+    directory.add(&Name::new(b"f")?, 7)?;
     Ok(directory)
 }
 
