@@ -66,6 +66,22 @@ rows_stay tells cache old new [] (r ∷ rs) same all = absurd all
 rows_stay tells cache old new (e ∷ es) [] same all = absurd all
 rows_stay tells cache old new (e ∷ es) (r ∷ rs) same all = (row_stays tells cache old new e r same all.0, rows_stay tells cache old new es rs same all.1)
 
+-- the rows of the runs so far with those of one run more, which was read off a slice that is theirs
+pub all_more : (tells : Bool) (cache : CacheList) (contents now : List Block) (slice runs : List DirtyRun) (i : ℕ) (run : DirtyRun) (rows new : List PlaceMatches)
+    → slice ≡ runs → i < length slice → run ≡ slice_index_or slice i run → (IsTrue tells → now ≡ contents)
+    → AreRowsOf tells cache contents (dirty_blocks (take i runs)) rows
+    → ((dirty : List DirtyBlock) → AreRowsOf tells cache now dirty rows → AreRowsOf tells cache now (dirty ++ blocks_from run.first run.blocks) new)
+    → AreRowsOf tells cache contents (dirty_blocks (take (i + 1) runs)) new
+all_more tells cache contents now slice runs i run rows new same less read stays are more =
+    let so_far : List DirtyBlock = dirty_blocks (take i runs) in
+    let less_too = subst (λ (rs : List DirtyRun). i < length rs) same less in
+    let read_too = subst (λ (rs : List DirtyRun). run ≡ slice_index_or rs i run) same read in
+    let before = rows_stay tells cache contents now so_far rows (λ told. sym (stays told)) are in
+    let after = rows_stay tells cache now contents (so_far ++ blocks_from run.first run.blocks) new stays (more so_far before) in
+    let next : dirty_blocks (take (i + 1) runs) ≡ so_far ++ blocks_from run.first run.blocks =
+    runs_more runs i run less_too ∙ ap (λ (r : DirtyRun). so_far ++ blocks_from r.first r.blocks) (sym read_too) in
+    subst (λ (es : List DirtyBlock). AreRowsOf tells cache contents es new) (sym next) after
+
 -- ---- runs
 
 pub run_below : (from : ℕ) (rs : List DirtyRun) (i : ℕ) (d : DirtyRun) → AreRuns from rs → i < length rs → (slice_index_or rs i d).first + length (slice_index_or rs i d).blocks ≤ 1048576

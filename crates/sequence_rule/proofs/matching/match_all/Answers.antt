@@ -1,10 +1,8 @@
-use Rattle.std.proofs.Common.{◌≡◌, ◌∙◌, ◌+◌, ◌≤◌, ◌<◌, ◌++◌, List, IsTrue, sym, ap, subst, arith, take, length, slice_index_or}
+use Rattle.std.proofs.Common.{◌≡◌, ◌∙◌, ◌+◌, ◌≤◌, ◌<◌, List, sym, ap, subst, arith, length, slice_index_or}
 use Rattle.disk_model.specs.Disk.{State}
 use Rattle.disk_model.proofs.Moments.{adds_read}
-use Rattle.sequence_rule.specs.Matched.{AreRowsOf}
-use Rattle.sequence_rule.specs.Runs.{DirtyBlock, blocks_from, dirty_blocks}
 use Rattle.sequence_rule.specs.declared.dirty.DirtyRun.{DirtyRun}
-use Rattle.sequence_rule.proofs.Rows.{runs_more, rows_stay, run_below}
+use Rattle.sequence_rule.proofs.Rows.{all_more, run_below}
 use Rattle.sequence_rule.proofs.matching.match_all.Goals as goal
 
 pub match_run-requires-clause-places : goal.match_run-requires-clause-places
@@ -18,23 +16,12 @@ match_run-requires-clause-places g c =
 pub loop-run-preserved : goal.loop-run-preserved
 loop-run-preserved g c =
     let inv = c.loop-run.invariant in
-    let tells = g.D.Disk.tells in
     let list = g.K.ContentCache.list c.args.cache.now in
     let now = (g.D.Disk.state c.loop-run.disk).contents in
     let contents = (g.D.Disk.state c.args.disk.now).contents in
-    let runs = c.args.dirty.now.runs in
-    let i = c.loop-run.run-index in
-    let run = c.run-item.result in
-    let same : c.as_slice-run-items.result.now ≡ runs = c.as_slice-run-items.ensures in
-    let less = subst (λ (rs : List DirtyRun). i < length rs) same c.loop-run-test.true in
-    let read = subst (λ (rs : List DirtyRun). run ≡ slice_index_or rs i run) same c.run-item.is in
-    let stays = λ (told : IsTrue tells). ap (λ (s : State). s.contents) (inv.same told) in
-    let before = rows_stay tells list contents now (dirty_blocks (take i runs)) c.loop-run.rows.items (λ told. sym (stays told)) inv.rows in
-    let after = rows_stay tells list now contents (dirty_blocks (take i runs) ++ blocks_from run.first run.blocks) c.match_run.new.rows.items stays (c.in_ok-match_run.ensures.rows (dirty_blocks (take i runs)) before) in
-    let more : dirty_blocks (take (i + 1) runs) ≡ dirty_blocks (take i runs) ++ blocks_from run.first run.blocks =
-    runs_more runs i run less ∙ ap (λ (r : DirtyRun). dirty_blocks (take i runs) ++ blocks_from r.first r.blocks) (sym read) in
     record {
-      rows = subst (λ (es : List DirtyBlock). AreRowsOf tells list contents es c.match_run.new.rows.items) (sym more) after;
+      rows = all_more g.D.Disk.tells list contents now c.as_slice-run-items.result.now c.args.dirty.now.runs c.loop-run.run-index c.run-item.result c.loop-run.rows.items c.match_run.new.rows.items
+          c.as_slice-run-items.ensures c.loop-run-test.true c.run-item.is (λ told. ap (λ (s : State). s.contents) (inv.same told)) inv.rows c.in_ok-match_run.ensures.rows;
       same = λ told. c.in_ok-match_run.ensures.same told ∙ inv.same told;
       moments = λ told. adds_read (inv.moments told) (inv.same told) (c.in_ok-match_run.ensures.moments told);
       fixed = c.in_ok-match_run.ensures.fixed ∙ inv.fixed;
