@@ -50,6 +50,31 @@ joined : List ℕ → ℕ → ℕ → List ℕ
 joined bytes place zero = []
 joined bytes place (suc k) = file_block bytes place ++ joined bytes (place + 1) k
 
+take_short : (n : ℕ) (xs : List ℕ) → length xs ≤ n → take n xs ≡ xs
+take_short zero xs le = sym (none_left xs le)
+take_short (suc n) [] le = refl
+take_short (suc n) (x ∷ xs) le = ap (λ (ys : List ℕ). x ∷ ys) (take_short n xs (omega (arith, le)))
+
+-- so many bytes from the front, filled up with zeros
+abbrev front : List ℕ → List ℕ
+front rest = take 4096 rest ++ replicate (4096 - length (take 4096 rest)) 0
+
+-- in front of zeros, bytes that fit a block have zeros behind them
+short_front : (rest more : List ℕ) (n left : ℕ) → length rest ≤ 4096 → more ≡ replicate n 0 → (4096 - length rest) + n ≡ left → front rest ++ more ≡ rest ++ replicate left 0
+short_front rest more n left le zeros all =
+    (λ i. (take_short 4096 rest le i ++ replicate (4096 - length (take_short 4096 rest le i)) 0) ++ zeros i)
+    ∙ append_assoc rest (replicate (4096 - length rest) 0) (replicate n 0)
+    ∙ ap (λ (xs : List ℕ). rest ++ xs) (replicate-append-replicate (4096 - length rest) n 0 ∙ ap (λ (m : ℕ). replicate m 0) all)
+
+-- in front of the others, the first bytes of more than fit a block are the first bytes
+long_front : (rest more : List ℕ) (left : ℕ) → 4096 < length rest → more ≡ drop 4096 rest ++ replicate left 0 → front rest ++ more ≡ rest ++ replicate left 0
+long_front rest more left lt is =
+    let full : 4096 - length (take 4096 rest) ≡ 0 = omega (arith, lt, length-take 4096 rest) in
+    (λ i. (take 4096 rest ++ replicate (full i) 0) ++ is i)
+    ∙ ap (λ (xs : List ℕ). xs ++ (drop 4096 rest ++ replicate left 0)) (append-nil (take 4096 rest))
+    ∙ sym (append_assoc (take 4096 rest) (drop 4096 rest) (replicate left 0))
+    ∙ ap (λ (xs : List ℕ). xs ++ replicate left 0) (take-append-drop 4096 rest)
+
 -- are the bytes from there on, and zeros
 joined_is : (bytes : List ℕ) (place k : ℕ) → length (drop (4096 * place) bytes) ≤ 4096 * k
     → joined bytes place k ≡ drop (4096 * place) bytes ++ replicate (4096 * k - length (drop (4096 * place) bytes)) 0
@@ -71,32 +96,15 @@ joined_is bytes place (suc k) le = by (nat_le (length (drop (4096 * place) bytes
         → file_block bytes place ++ joined bytes (place + 1) k ≡ drop (4096 * place) bytes ++ replicate (4096 * suc k - length (drop (4096 * place) bytes)) 0
     by true is more =
         let short : length (drop (4096 * place) bytes) ≤ 4096 = grind (arith, nat_tests) in
-        let whole : take 4096 (drop (4096 * place) bytes) ≡ drop (4096 * place) bytes = take_short (drop (4096 * place) bytes) short in
         let none : drop (4096 * (place + 1)) bytes ≡ [] = none_left _ (omega (arith, shorter, short)) in
-        let a = 4096 - length (drop (4096 * place) bytes) in
         let left : 4096 * k - length (drop (4096 * (place + 1)) bytes) ≡ 4096 * k = omega (arith, shorter, short) in
-        let all : a + 4096 * k ≡ 4096 * suc k - length (drop (4096 * place) bytes) = omega (arith, short) in
-        (λ i. (whole i ++ replicate (4096 - length (whole i)) 0) ++ more i)
-        ∙ (λ i. (drop (4096 * place) bytes ++ replicate a 0) ++ (none i ++ replicate (left i) 0))
-        ∙ append_assoc (drop (4096 * place) bytes) (replicate a 0) (replicate (4096 * k) 0)
-        ∙ ap (λ (xs : List ℕ). drop (4096 * place) bytes ++ xs) (replicate-append-replicate a (4096 * k) 0 ∙ ap (λ (n : ℕ). replicate n 0) all)
-      where
-        take_short : (xs : List ℕ) → length xs ≤ 4096 → take 4096 xs ≡ xs
-        take_short xs le = take_at_most 4096 xs le
-          where
-            take_at_most : (n : ℕ) (xs : List ℕ) → length xs ≤ n → take n xs ≡ xs
-            take_at_most zero xs le = sym (none_left xs le)
-            take_at_most (suc n) [] le = refl
-            take_at_most (suc n) (x ∷ xs) le = ap (λ (ys : List ℕ). x ∷ ys) (take_at_most n xs (omega (arith, le)))
+        let zeros : joined bytes (place + 1) k ≡ replicate (4096 * k) 0 = more ∙ (λ i. none i ++ replicate (left i) 0) in
+        short_front (drop (4096 * place) bytes) (joined bytes (place + 1) k) (4096 * k) _ short zeros (omega (arith, short))
     by false is more =
         let long : 4096 < length (drop (4096 * place) bytes) = grind (arith, nat_tests) in
-        let full : 4096 - length (take 4096 (drop (4096 * place) bytes)) ≡ 0 = omega (arith, long, length-take 4096 (drop (4096 * place) bytes)) in
         let left : 4096 * k - length (drop (4096 * (place + 1)) bytes) ≡ 4096 * suc k - length (drop (4096 * place) bytes) = omega (arith, shorter, long) in
-        let head = take 4096 (drop (4096 * place) bytes) in
-        (λ i. (head ++ replicate (full i) 0) ++ more i)
-        ∙ (λ i. append-nil head i ++ (next i ++ replicate (left i) 0))
-        ∙ sym (append_assoc head (drop 4096 (drop (4096 * place) bytes)) (replicate (4096 * suc k - length (drop (4096 * place) bytes)) 0))
-        ∙ ap (λ (xs : List ℕ). xs ++ replicate (4096 * suc k - length (drop (4096 * place) bytes)) 0) (take-append-drop 4096 (drop (4096 * place) bytes))
+        let rest : joined bytes (place + 1) k ≡ drop 4096 (drop (4096 * place) bytes) ++ replicate (4096 * suc k - length (drop (4096 * place) bytes)) 0 = more ∙ (λ i. next i ++ replicate (left i) 0) in
+        long_front (drop (4096 * place) bytes) (joined bytes (place + 1) k) _ long rest
 
 all_zeros : (m : ℕ) → list_all (λ b. b == 0) (replicate m 0) ≡ true
 all_zeros zero = refl
