@@ -44,11 +44,11 @@ use Rattle.image_model.proofs.SpaceLaws.{below_at, under}
 
 -- ---- the slots of a number
 
-abbrev Pieces : Type 0
+abbrev pub Pieces : Type 0
 Pieces = List (Slot × List ℕ)
 
 -- the slots of the blocks of these pairs
-abbrev pieces_in : Blocks → List (ℕ × ℕ) → Pieces
+abbrev pub pieces_in : Blocks → List (ℕ × ℕ) → Pieces
 pieces_in read pairs = flat_map (λ (e : ℕ × ℕ). slots_from 16 (read e.1)) pairs
 
 pieces_append : (xs ys : List Held) (n : ℕ) → slot_pieces (xs ++ ys) n ≡ slot_pieces xs n ++ slot_pieces ys n
@@ -60,7 +60,7 @@ pieces_append (h ∷ hs) ys n = by (h.number == n) (pieces_append hs ys n)
     by false more = more
 
 module _ (read : Blocks) (n : ℕ) where
-  abbrev pieces : List Met → Pieces
+  abbrev pub pieces : List Met → Pieces
   pieces ms = slot_pieces (all_held (page_held read) ms) n
 
   own : (m : ℕ) → nat_eq m n ≡ true → (pairs : List (ℕ × ℕ)) → pieces (map (λ (e : ℕ × ℕ). page m e.0 e.1) pairs) ≡ pieces_in read pairs
@@ -71,10 +71,10 @@ module _ (read : Blocks) (n : ℕ) where
   other m apart [] = refl
   other m apart (e ∷ es) = λ i. cond (apart i) (slots_from 16 (read e.1)) [] ++ other m apart es i
 
-  met_append : (xs ys : List Met) → pieces (xs ++ ys) ≡ pieces xs ++ pieces ys
+  pub met_append : (xs ys : List Met) → pieces (xs ++ ys) ≡ pieces xs ++ pieces ys
   met_append xs ys = ap (λ (hs : List Held). slot_pieces hs n) (held_append (page_held read) xs ys) ∙ pieces_append (all_held (page_held read) xs) (all_held (page_held read) ys) n
 
-  none_indexes : (bs : List ℕ) → pieces (map index bs) ≡ []
+  pub none_indexes : (bs : List ℕ) → pieces (map index bs) ≡ []
   none_indexes bs = ap (λ (hs : List Held). slot_pieces hs n) (no_pages read bs)
 
   none_contents : (m : ℕ) (pairs : List (ℕ × ℕ)) → pieces (map (λ (e : ℕ × ℕ). content m e.0 e.1) pairs) ≡ []
@@ -100,7 +100,7 @@ module _ (read : Blocks) (n : ℕ) where
       let parts = or_parts (nat_eq node.0 n) (is_among (numbers nodes) n) out in
       ap pieces (flat_map-cons (node_trees read) node nodes) ∙ met_append (node_trees read node) (flat_map (node_trees read) nodes) ∙ (λ i. node_other node parts.0 i ++ nodes_none nodes parts.1 i)
 
-  nodes_pieces : (nodes : List (ℕ × Inode)) → Distinct (numbers nodes) → pieces (flat_map (node_trees read) nodes) ≡ pieces_in read (directory_pairs read (inode_of nodes n))
+  pub nodes_pieces : (nodes : List (ℕ × Inode)) → Distinct (numbers nodes) → pieces (flat_map (node_trees read) nodes) ≡ pieces_in read (directory_pairs read (inode_of nodes n))
   nodes_pieces [] distinct = refl
   nodes_pieces (node ∷ nodes) distinct =
       ap pieces (flat_map-cons (node_trees read) node nodes) ∙ met_append (node_trees read node) (flat_map (node_trees read) nodes) ∙ by (nat_eq node.0 n) refl (nodes_pieces nodes distinct.1)
@@ -116,11 +116,11 @@ module _ (read : Blocks) (n : ℕ) where
 -- ---- a directory without a hole
 
 -- places with their blocks
-abbrev placed : (ℕ → ℕ) → ℕ → ℕ × ℕ
+abbrev pub placed : (ℕ → ℕ) → ℕ → ℕ × ℕ
 placed block p = (p, block p)
 
 -- rising pairs that have each place of a span are those of the span
-full_pairs : (k n : ℕ) (pairs : List (ℕ × ℕ)) → Rising k (places_in pairs) → AllUnder (k + n) (places_in pairs) → ((p : ℕ) → k ≤ p → p < k + n → (block_in pairs p == 0) ≡ false)
+pub full_pairs : (k n : ℕ) (pairs : List (ℕ × ℕ)) → Rising k (places_in pairs) → AllUnder (k + n) (places_in pairs) → ((p : ℕ) → k ≤ p → p < k + n → (block_in pairs p == 0) ≡ false)
     → pairs ≡ map (placed (block_in pairs)) (span k n)
 full_pairs k zero [] rising lies there = refl
 full_pairs k zero (e ∷ es) rising lies there = absurd (omega (arith, rising.0, lies.0))
