@@ -1,18 +1,15 @@
 -- A directory that stands in its blocks is what is seen of it.
 use Rattle.std.proofs.Common.{◌≡◌, ℕ, zero, suc, ◌+◌, ◌-◌, ◌*◌, ◌<◌, ◌≤◌, Bool, true, false, not, cond, List, [], ◌∷◌, ◌++◌, length, take, drop, replicate, map, Some, refl, sym, ap, subst, ◌∙◌, arith, append_assoc}
-use Rattle.std.specs.Prelude.{◌≢◌, ◌==◌, ◌&&◌, ◌||◌, nat_eq, nat_le, bytes_eq, count_by, slice_index_or, All}
+use Rattle.std.specs.Prelude.{◌==◌, ◌&&◌, ◌||◌, nat_eq, bytes_eq, count_by, slice_index_or, Option}
 use Rattle.std.specs.List.{list_all, list_any, flat_map}
 use Rattle.std.proofs.lemmas.Bool.{eqb-true, eq-eqb}
 use Rattle.std.proofs.lemmas.Bool.Decides.{nat_tests}
 use Rattle.std.proofs.lemmas.List.{drop_at, map-append, append-nil}
-use Rattle.std.proofs.lemmas.List.Elements.{All-head, All-tail}
 use Rattle.std.proofs.lemmas.List.Concat.{flat_map-cons}
-use Rattle.std.proofs.lemmas.Slice.Eq.{bytes_eq-Decides}
-use Rattle.vol_numbers.specs.Name.{IsName}
 use Rattle.vol_numbers.specs.declared.block.Block.{Block}
 use Rattle.root_switch.specs.Current.{root_of_image}
 use Rattle.block_format.specs.Inode.{blocks_of}
-use Rattle.block_format.specs.Slot.{SlotFits, slot_in, slot_bytes}
+use Rattle.block_format.specs.Slot.{slot_in, slot_bytes}
 use Rattle.block_format.specs.declared.inode.Inode.{Inode}
 use Rattle.block_format.specs.declared.inode.Inode.TheVariants.{Unused, File, Directory}
 use Rattle.block_format.specs.declared.slot.Slot.{Slot}
@@ -22,7 +19,7 @@ use Rattle.block_tree.specs.Tree.{Blocks, index_at, nonzero, block_in, block_bel
 use Rattle.block_tree.proofs.Pairs.{pairs_are}
 use Rattle.block_tree.proofs.Rise.{places_in, pairs_rise}
 use Rattle.dir_slots.specs.Pages.{IsPage, pages_for}
-use Rattle.dir_slots.specs.Slots.{IsDirectory, slot_at, is_used as is_entry, name_of, number_in as numbers_in, HasNamesOnce}
+use Rattle.dir_slots.specs.Slots.{IsDirectory, slot_at, is_used as is_entry, name_of, number_in, HasNamesOnce}
 use Rattle.place_words.specs.Different.{is_among, Distinct, span}
 use Rattle.place_words.specs.Rising.{Rising, AllUnder}
 use Rattle.place_words.proofs.Rising.{rising_less}
@@ -32,13 +29,13 @@ use Rattle.image_model.specs.Met.{Met, index, page, content, NoFaults}
 use Rattle.image_model.specs.Nodes.{is_bad_directory, is_slot_spelled, is_empty, has_twin, is_entry_name, AllBelow, blocks_in_node}
 use Rattle.image_model.specs.Planned.{node_trees}
 use Rattle.image_model.specs.Seen.{Held, seen, all_held, page_held}
-use Rattle.image_model.specs.Slots.{slot_pieces, slots_from, slots_of, inode_of, is_name, number_in}
+use Rattle.image_model.specs.Slots.{slot_pieces, slots_from, slots_of, inode_of}
 use Rattle.image_model.specs.Standing.{DirectoryStands}
 use Rattle.image_model.specs.Walk.{nodes_at}
 use Rattle.image_model.proofs.FileLaws.{drop_twice}
 use Rattle.image_model.proofs.NodePlaces.{numbers, numbers_distinct, held_append, no_pages, file_pages, directory_pairs, is_of, pages_at}
 use Rattle.image_model.proofs.NodeWalk.{pairs_of_node, walk_good}
-use Rattle.image_model.proofs.Paths.{same_name, name_itself}
+use Rattle.image_model.proofs.Paths.{same_name}
 use Rattle.image_model.proofs.SlotTests.{slot_passes}
 use Rattle.image_model.proofs.SpaceLaws.{below_at, under}
 
@@ -238,20 +235,11 @@ no_twin (slots.Entry number name ∷ ss) m once =
     (λ i. no_name ss m name (λ i used is. let s : zero ≡ suc i = once zero (suc i) refl used (sym is) in absurd (omega (arith, s))) i || has_twin (ss ++ replicate m slots.Unused))
     ∙ no_twin ss m (λ i j a b e. let s : suc i ≡ suc j = once (suc i) (suc j) a b e in omega (arith, s))
 
-same_eq : (a b : List ℕ) → name_eq a b ≡ bytes_eq a b
-same_eq a b = by (name_eq a b) refl (bytes_eq a b) refl
-  where
-    by : (t : Bool) → name_eq a b ≡ t → (u : Bool) → bytes_eq a b ≡ u → t ≡ u
-    by true e true f = refl
-    by true e false f = let g : bytes_eq a b ≡ true = (bytes_eq-Decides a b).1 (same_name a b e) in cc
-    by false e true f = let g : name_eq a b ≡ true = ap (name_eq a) (sym ((bytes_eq-Decides a b).0 f)) ∙ name_itself a in cc
-    by false e false f = refl
-
-numbers_same : (ss : List Slot) (m : ℕ) (name : List ℕ) → number_in (ss ++ replicate m slots.Unused) name ≡ numbers_in ss name
+numbers_same : (ss : List Slot) (m : ℕ) (name : List ℕ) → number_in (ss ++ replicate m slots.Unused) name ≡ number_in ss name
 numbers_same [] zero name = refl
 numbers_same [] (suc m) name = numbers_same [] m name
 numbers_same (slots.Unused ∷ ss) m name = numbers_same ss m name
-numbers_same (slots.Entry number other ∷ ss) m name = λ i. cond (same_eq other name i) (Some number) (numbers_same ss m name i)
+numbers_same (slots.Entry number other ∷ ss) m name = ap (λ (o : Option ℕ). cond (bytes_eq other name) (Some number) o) (numbers_same ss m name)
 
 all_empty : (m : ℕ) → list_all is_empty (replicate m slots.Unused) ≡ true
 all_empty zero = refl

@@ -2,7 +2,7 @@
 use Rattle.std.proofs.Common.{◌≡◌, ℕ, zero, suc, ◌+◌, ◌-◌, ◌*◌, ◌<◌, ◌≤◌, Bool, true, false, not, cond, List, [], ◌∷◌, ◌++◌, length, take, drop, map, Some, refl, sym, ap, subst, ◌∙◌, arith}
 use Rattle.std.specs.Prelude.{◌==◌, ◌||◌, nat_le, count_by, slice_index_or, Contains}
 use Rattle.std.specs.List.{list_all, flat_map}
-use Rattle.std.proofs.lemmas.Bool.{eqb-true, eq-eqb}
+use Rattle.std.proofs.lemmas.Bool.{eqb-true}
 use Rattle.std.proofs.lemmas.Bool.Decides.{nat_tests}
 use Rattle.std.proofs.lemmas.List.{length-take}
 use Rattle.std.proofs.lemmas.List.Concat.{flat_map-cons}
@@ -18,13 +18,13 @@ use Rattle.block_tree.specs.Tree.{Blocks, index_at, nonzero, block_in, block_bel
 use Rattle.block_tree.proofs.Pairs.{pairs_are}
 use Rattle.block_tree.proofs.Rise.{places_in, pairs_rise}
 use Rattle.dir_slots.specs.Pages.{pages_for}
-use Rattle.dir_slots.specs.Slots.{IsDirectory, HasNamesOnce, slot_at, is_used as is_entry, name_of}
+use Rattle.dir_slots.specs.Slots.{HasNamesOnce, slot_at, is_used as is_entry, name_of}
 use Rattle.place_words.specs.Different.{span}
 use Rattle.tree_model.specs.declared.node.Content.TheVariants as tree
 use Rattle.image_model.specs.Met.{Met, index, NoFaults}
 use Rattle.image_model.specs.Nodes.{is_bad_directory, is_slot_spelled, is_empty, has_twin, AllBelow, blocks_in_node}
 use Rattle.image_model.specs.Planned.{node_trees}
-use Rattle.image_model.specs.Reading.{DirectoriesStand, DirectoryIsTested, HasDirectory}
+use Rattle.image_model.specs.Reading.{DirectoriesStand, DirectoryIsTested}
 use Rattle.image_model.specs.Seen.{Seen, seen, all_held, page_held}
 use Rattle.image_model.specs.Slots.{slot_pieces, slots_from, slots_of, inode_of}
 use Rattle.image_model.specs.Standing.{DirectoryStands}

@@ -1,5 +1,5 @@
 -- A file without a tail stands in the blocks below its inode.
-use Rattle.std.proofs.Common.{◌≡◌, ℕ, zero, suc, ◌+◌, ◌-◌, ◌*◌, ◌<◌, ◌≤◌, Bool, true, false, not, cond, min, List, [], ◌∷◌, ◌++◌, length, take, drop, replicate, Some, None, refl, sym, ap, subst, ◌∙◌, arith}
+use Rattle.std.proofs.Common.{◌≡◌, ℕ, zero, suc, ◌+◌, ◌-◌, ◌*◌, ◌<◌, ◌≤◌, Bool, true, false, not, cond, List, [], ◌∷◌, ◌++◌, length, take, drop, replicate, Some, None, refl, sym, ap, subst, ◌∙◌, arith}
 use Rattle.std.specs.Prelude.{◌==◌, ◌&&◌, nat_le, Contains}
 use Rattle.std.specs.List.{list_all}
 use Rattle.std.proofs.lemmas.Bool.{eqb-true}
@@ -23,7 +23,7 @@ use Rattle.image_model.proofs.Area.{no_faults}
 use Rattle.image_model.proofs.FileLaws.{drop_twice}
 use Rattle.image_model.proofs.HeldLaws.{tree_is_held}
 use Rattle.image_model.proofs.NumberHeld.{bytes_held, held_from, held_here, file_found}
-use Rattle.image_model.proofs.SpaceLaws.{held_length, bytes_length, file_length, node_there}
+use Rattle.image_model.proofs.SpaceLaws.{held_length, file_length, node_there}
 use Rattle.image_model.proofs.StandingTree.{content_is, file_same, apart}
 
 -- the bytes of a place, with zeros up to the end of a block

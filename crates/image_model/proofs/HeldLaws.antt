@@ -3,13 +3,14 @@ use Rattle.std.proofs.Common.{◌≡◌, ℕ, true, [], ◌∷◌, ◌++◌, Som
 use Rattle.std.specs.Prelude.{Option, option_and_then, option_map}
 use Rattle.block_format.specs.declared.inode.Inode.{Inode}
 use Rattle.block_format.specs.declared.inode.Inode.TheVariants.{Unused, File, Directory}
+use Rattle.dir_slots.specs.Slots.{number_in}
 use Rattle.tree_model.specs.Path.{Path}
 use Rattle.tree_model.specs.Tree.{Tree, node_at}
 use Rattle.tree_model.specs.declared.node.Node.{Node}
 use Rattle.image_model.specs.Holds.{HoldsTree}
 use Rattle.image_model.specs.Laws.{TreeIsHeld}
 use Rattle.image_model.specs.Seen.{Seen, seen}
-use Rattle.image_model.specs.Slots.{slots_of, inode_of, number_in, number_along}
+use Rattle.image_model.specs.Slots.{slots_of, inode_of, number_along}
 use Rattle.image_model.specs.Sound.{IsNamed}
 use Rattle.image_model.specs.Stands.{node_of, node_along}
 use Rattle.image_model.specs.Walk.{is_used}

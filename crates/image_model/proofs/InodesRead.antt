@@ -1,6 +1,6 @@
 -- Inode blocks in which no fault is met have the inodes that are seen.
-use Rattle.std.proofs.Common.{◌≡◌, ℕ, zero, suc, ◌+◌, ◌*◌, ◌^◌, ◌<◌, ◌≤◌, Bool, true, false, not, cond, List, [], ◌∷◌, ◌++◌, length, take, drop, replicate, refl, sym, ap, subst, ◌∙◌, arith}
-use Rattle.std.specs.Prelude.{◌==◌, ◌&&◌, ◌||◌, bytes_eq}
+use Rattle.std.proofs.Common.{◌≡◌, ℕ, zero, suc, ◌+◌, ◌*◌, ◌^◌, ◌<◌, ◌≤◌, Bool, true, false, cond, List, [], ◌∷◌, ◌++◌, length, take, drop, replicate, refl, sym, ap, subst, ◌∙◌, arith}
+use Rattle.std.specs.Prelude.{◌==◌, ◌&&◌, bytes_eq}
 use Rattle.std.specs.List.{list_any, AllByRecursion, flat_map}
 use Rattle.std.proofs.lemmas.Bool.Decides.{nat_tests}
 use Rattle.std.proofs.lemmas.List.{take-append-drop, length-drop}
@@ -8,13 +8,13 @@ use Rattle.std.proofs.lemmas.List.Concat.{flat_map-cons}
 use Rattle.std.proofs.lemmas.Slice.Eq.{bytes_eq-Decides}
 use Rattle.byteorder.specs.Endian.{little_bytes, little_number}
 use Rattle.byteorder.specs.Numbers.{little_from-bytes}
-use Rattle.block_format.specs.Inode.{inode_bytes, inode_in, inode_shape, pointer_of, node_bytes}
+use Rattle.block_format.specs.Inode.{inode_bytes, inode_in, inode_shape, pointer_of}
 use Rattle.block_format.specs.declared.inode.Inode.{Inode}
 use Rattle.block_format.specs.declared.inode.Inode.TheVariants.{Unused, File, Directory}
 use Rattle.block_tree.specs.Tree.{Blocks}
 use Rattle.place_words.specs.Rising.{Rising, AllUnder}
 use Rattle.place_words.proofs.Rising.{rising_less}
-use Rattle.image_model.specs.Met.{Met, not_inode, stray, NoFaults}
+use Rattle.image_model.specs.Met.{Met, not_inode, NoFaults}
 use Rattle.image_model.specs.Walk.{is_used, is_good, is_pointer_wrong, bad_met, block_met, blocks_met, inodes_from, blocks_inodes, nodes_of}
 use Rattle.image_model.specs.Planned.{inodes_bytes, used_from, GroupStands, InodesStand}
 use Rattle.image_model.specs.Slots.{inode_of}

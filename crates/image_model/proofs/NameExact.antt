@@ -1,6 +1,6 @@
 -- Where what is seen is sound, no number is lost.
 use Rattle.std.proofs.Common.{◌≡◌, ℕ, zero, suc, ◌+◌, ◌≤◌, Bool, true, false, not, cond, List, [], ◌∷◌, ◌++◌, length, Some, None, refl, sym, ap, subst, ◌∙◌, arith}
-use Rattle.std.specs.Prelude.{◌==◌, ◌&&◌, ◌||◌, nat_eq, nat_lt, Option, option_and_then, unwrap_or, count_by, reverse}
+use Rattle.std.specs.Prelude.{◌==◌, ◌&&◌, ◌||◌, nat_eq, nat_lt, Option, option_and_then, unwrap_or, count_by, reverse, bytes_eq}
 use Rattle.std.specs.List.{list_any, flat_map, filter_map, AllByRecursion}
 use Rattle.std.proofs.lemmas.Bool.{eqb-true}
 use Rattle.std.proofs.lemmas.Bool.Decides.{nat_tests}
@@ -16,17 +16,18 @@ use Rattle.block_tree.specs.Tree.{Blocks, index_at}
 use Rattle.place_words.specs.Different.{is_among, different, Distinct}
 use Rattle.place_words.proofs.Counting.{distinct_count}
 use Rattle.place_words.proofs.Totals.{different_part}
+use Rattle.dir_slots.specs.Slots.{number_in}
 use Rattle.tree_model.specs.Path.{Path, name_eq}
 use Rattle.image_model.specs.declared.finding.Finding.TheVariants.{NotATree}
 use Rattle.image_model.proofs.Entries.{Entry, is_of, entry_at, leads, times_named, entries_in, entries_of}
 use Rattle.image_model.specs.Nodes.{has_twin, is_entry_name, number_named, names_of, reached_in, is_lost, or_behind, lost_finding, tree_finding}
 use Rattle.image_model.specs.Seen.{Seen, seen_from}
-use Rattle.image_model.specs.Slots.{slots_of, inode_of, number_in, number_along}
+use Rattle.image_model.specs.Slots.{slots_of, inode_of, number_along}
 use Rattle.image_model.specs.Sound.{IsSound}
 use Rattle.image_model.specs.Walk.{is_used, nodes_at, blocks_inodes}
 use Rattle.image_model.proofs.Naming.{names_are, times_mapped, leads_right, found_name, right, no_slots, directory_fine}
 use Rattle.image_model.proofs.NodePlaces.{numbers, numbers_distinct, nodes_used, used_among, directory_pairs}
-use Rattle.image_model.proofs.Paths.{found_times, same_name, name_itself}
+use Rattle.image_model.proofs.Paths.{found_times, same_name, same_bytes, bytes_itself, name_itself}
 
 or_parts : (a b : Bool) → (a || b) ≡ false → (a ≡ false) × (b ≡ false)
 or_parts true b e = cc
@@ -52,11 +53,11 @@ behind_unused d ss (e ∷ es) all = (all.0, behind_unused d ss es all.1)
 
 behind_entry : (d number : ℕ) (name : List ℕ) (ss : List Slot) → list_any (is_entry_name name) ss ≡ false → (es : List Entry) → AllFound d ss es → AllFound d (slots.Entry number name ∷ ss) es
 behind_entry d number name ss none [] all = tt
-behind_entry d number name ss none (e ∷ es) all = ((all.0.0, by (name_eq name e.name) refl), behind_entry d number name ss none es all.1)
+behind_entry d number name ss none (e ∷ es) all = ((all.0.0, by (bytes_eq name e.name) refl), behind_entry d number name ss none es all.1)
   where
-    by : (t : Bool) → name_eq name e.name ≡ t → cond t (Some number) (number_in ss e.name) ≡ Some e.number
+    by : (t : Bool) → bytes_eq name e.name ≡ t → cond t (Some number) (number_in ss e.name) ≡ Some e.number
     by true is =
-        let same = same_name name e.name is in
+        let same = same_bytes name e.name is in
         let twin : list_any (is_entry_name name) ss ≡ true = found_name ss name e.number (ap (number_in ss) same ∙ all.0.1) in
         cc
     by false is = all.0.1
@@ -66,7 +67,7 @@ all_found d [] none = tt
 all_found d (slots.Unused ∷ ss) none = behind_unused d ss (entries_in d ss) (all_found d ss none)
 all_found d (slots.Entry number name ∷ ss) none =
     let parts = or_parts (list_any (is_entry_name name) ss) (has_twin ss) none in
-    ((refl, ap (λ (t : Bool). cond t (Some number) (number_in ss name)) (name_itself name)), behind_entry d number name ss parts.0 (entries_in d ss) (all_found d ss parts.1))
+    ((refl, ap (λ (t : Bool). cond t (Some number) (number_in ss name)) (bytes_itself name)), behind_entry d number name ss parts.0 (entries_in d ss) (all_found d ss parts.1))
 
 -- ---- a name stands once
 
@@ -209,7 +210,7 @@ among_each f (c ∷ ds) d n there among = subst (λ (ns : List ℕ). is_among ns
 pub number_among : (ss : List Slot) (name : List ℕ) (n : ℕ) → number_in ss name ≡ Some n → is_among (filter_map number_named ss) n ≡ true
 number_among [] name n found = cc
 number_among (slots.Unused ∷ ss) name n found = number_among ss name n found
-number_among (slots.Entry number other ∷ ss) name n found = by (name_eq other name) found (number_among ss name n)
+number_among (slots.Entry number other ∷ ss) name n found = by (bytes_eq other name) found (number_among ss name n)
   where
     by : (t : Bool) → cond t (Some number) (number_in ss name) ≡ Some n → (number_in ss name ≡ Some n → is_among (filter_map number_named ss) n ≡ true) → (nat_eq number n || is_among (filter_map number_named ss) n) ≡ true
     by true found more = let e : number ≡ n = cc in or_first (nat_eq number n) _ (grind (arith, nat_tests))

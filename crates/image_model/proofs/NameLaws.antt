@@ -9,13 +9,14 @@ use Rattle.vol_numbers.specs.Layout.{Layout, count_blocks}
 use Rattle.root_switch.specs.Current.{root_of_image}
 use Rattle.block_format.specs.declared.inode.Inode.{Inode}
 use Rattle.block_tree.specs.Tree.{Blocks, blocks_in}
+use Rattle.dir_slots.specs.Slots.{number_in}
 use Rattle.tree_model.specs.Path.{Path}
 use Rattle.image_model.specs.declared.finding.Finding.TheVariants.{NotATree}
 use Rattle.image_model.proofs.Entries.{entry_at, leads, times_named, NamesOnce, entries_of}
 use Rattle.image_model.specs.Findings.{walk_finding, mixed_finding, body_finding}
 use Rattle.image_model.specs.Nodes.{number_named, names_of, reached_in, is_lost, or_behind, lost_finding, tail_finding, directory_finding, tree_finding}
 use Rattle.image_model.specs.Seen.{Seen, seen, seen_from}
-use Rattle.image_model.specs.Slots.{slots_of, inode_of, number_in, number_along}
+use Rattle.image_model.specs.Slots.{slots_of, inode_of, number_along}
 use Rattle.image_model.specs.Sound.{IsNamed, IsSound}
 use Rattle.image_model.specs.Stands.{layout_in}
 use Rattle.image_model.specs.Walk.{is_used, nodes_at}

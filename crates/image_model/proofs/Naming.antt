@@ -1,6 +1,6 @@
 -- The entries of directories, and what they lead to.
 use Rattle.std.proofs.Common.{◌≡◌, ℕ, ◌+◌, ◌≤◌, Bool, true, false, not, cond, List, [], ◌∷◌, ◌++◌, length, map, Some, None, refl, sym, ap, subst, ◌∙◌, arith}
-use Rattle.std.specs.Prelude.{◌==◌, ◌&&◌, ◌||◌, nat_eq, nat_le, Option, option_and_then, Contains, count_by, reverse}
+use Rattle.std.specs.Prelude.{◌==◌, ◌&&◌, ◌||◌, nat_eq, nat_le, Option, option_and_then, Contains, count_by, reverse, bytes_eq}
 use Rattle.std.specs.List.{list_any, list_all, flat_map, filter_map, AllByRecursion}
 use Rattle.std.proofs.lemmas.Bool.{eqb-true}
 use Rattle.std.proofs.lemmas.Bool.Decides.{nat_tests}
@@ -14,19 +14,20 @@ use Rattle.block_format.specs.declared.slot.Slot.{Slot}
 use Rattle.block_format.specs.declared.slot.Slot.TheVariants as slots
 use Rattle.block_tree.specs.Tree.{Blocks, index_at, nonzero}
 use Rattle.place_words.specs.Different.{is_among, Distinct}
+use Rattle.dir_slots.specs.Slots.{number_in}
 use Rattle.tree_model.specs.Path.{Path, name_eq}
 use Rattle.image_model.proofs.Entries.{Entry, is_of, entry_at, leads, times_named, NamesOnce, entries_in, entries_of}
 use Rattle.image_model.specs.Met.{Met, index}
 use Rattle.image_model.specs.Nodes.{has_twin, is_bad_directory, is_entry_name, is_slot_spelled, number_named, names_of}
 use Rattle.image_model.specs.Planned.{node_trees}
 use Rattle.image_model.specs.Seen.{Seen, Held, seen_from, all_held, page_held}
-use Rattle.image_model.specs.Slots.{slot_pieces, slots_of, slots_from, inode_of, number_in, number_along}
+use Rattle.image_model.specs.Slots.{slot_pieces, slots_of, slots_from, inode_of, number_along}
 use Rattle.image_model.specs.Sound.{AllGood}
 use Rattle.image_model.specs.Walk.{is_used, is_directory, nodes_at, blocks_inodes}
 use Rattle.image_model.proofs.Area.{no_faults}
 use Rattle.image_model.proofs.NodePlaces.{numbers_distinct, nodes_used, used_among, directory_pairs, pages_at, is_of as is_of_number}
 use Rattle.image_model.proofs.NodeWalk.{WalkMet, walk_good}
-use Rattle.image_model.proofs.Paths.{one_path, same_name, name_itself}
+use Rattle.image_model.proofs.Paths.{one_path, same_bytes, bytes_itself, name_itself, same_eq}
 use Rattle.image_model.proofs.PlanLaws.{nodes_limits}
 use Rattle.image_model.proofs.SpaceLaws.{node_there}
 
@@ -38,7 +39,7 @@ in_entries d [] name = refl
 in_entries d (slots.Unused ∷ ss) name = in_entries d ss name
 in_entries d (slots.Entry number other ∷ ss) name =
     let same : (d == d) ≡ true = grind (arith, nat_tests) in
-    (λ i. cond (same i && name_eq other name) (Some number) (entry_at (entries_in d ss) d name)) ∙ ap (λ (o : Option ℕ). cond (name_eq other name) (Some number) o) (in_entries d ss name)
+    (λ i. cond (same i && name_eq other name) (Some number) (entry_at (entries_in d ss) d name)) ∙ (λ i. cond (same_eq other name i) (Some number) (in_entries d ss name i))
 
 -- entries of another directory don't count
 pub other_entries : (c d : ℕ) → (c == d) ≡ false → (ss : List Slot) (rest : List Entry) (name : List ℕ) → entry_at (entries_in c ss ++ rest) d name ≡ entry_at rest d name
@@ -153,14 +154,14 @@ or_parts false b e = (refl, e)
 pub found_name : (ss : List Slot) (name : List ℕ) (n : ℕ) → number_in ss name ≡ Some n → list_any (is_entry_name name) ss ≡ true
 found_name [] name n found = cc
 found_name (slots.Unused ∷ ss) name n found = found_name ss name n found
-found_name (slots.Entry number other ∷ ss) name n found = by (name_eq other name) refl found (found_name ss name n)
+found_name (slots.Entry number other ∷ ss) name n found = by (bytes_eq other name) refl found (found_name ss name n)
   where
     later : (a b : Bool) → b ≡ true → (a || b) ≡ true
     later true b e = refl
     later false b e = e
 
-    by : (t : Bool) → name_eq other name ≡ t → cond t (Some number) (number_in ss name) ≡ Some n → (number_in ss name ≡ Some n → list_any (is_entry_name name) ss ≡ true) → (name_eq name other || list_any (is_entry_name name) ss) ≡ true
-    by true is found more = let e = same_name other name is in ap (λ (t : Bool). t || list_any (is_entry_name name) ss) (ap (name_eq name) e ∙ name_itself name)
+    by : (t : Bool) → bytes_eq other name ≡ t → cond t (Some number) (number_in ss name) ≡ Some n → (number_in ss name ≡ Some n → list_any (is_entry_name name) ss ≡ true) → (name_eq name other || list_any (is_entry_name name) ss) ≡ true
+    by true is found more = let e = same_bytes other name is in ap (λ (t : Bool). t || list_any (is_entry_name name) ss) (ap (name_eq name) e ∙ name_itself name)
     by false is found more = later (name_eq name other) _ (more found)
 
 abbrev pub AllNamed : List Slot → List ℕ → Type 0
@@ -168,11 +169,11 @@ AllNamed ss ns = AllByRecursion (λ (n : ℕ). (name : List ℕ) × (number_in s
 
 behind_entry : (number : ℕ) (other : List ℕ) (ss : List Slot) → list_any (is_entry_name other) ss ≡ false → (ns : List ℕ) → AllNamed ss ns → AllNamed (slots.Entry number other ∷ ss) ns
 behind_entry number other ss none [] all = tt
-behind_entry number other ss none (n ∷ ns) all = ((all.0.0, by (name_eq other all.0.0) refl), behind_entry number other ss none ns all.1)
+behind_entry number other ss none (n ∷ ns) all = ((all.0.0, by (bytes_eq other all.0.0) refl), behind_entry number other ss none ns all.1)
   where
-    by : (t : Bool) → name_eq other all.0.0 ≡ t → cond t (Some number) (number_in ss all.0.0) ≡ Some n
+    by : (t : Bool) → bytes_eq other all.0.0 ≡ t → cond t (Some number) (number_in ss all.0.0) ≡ Some n
     by true is =
-        let e = same_name other all.0.0 is in
+        let e = same_bytes other all.0.0 is in
         let twin : list_any (is_entry_name other) ss ≡ true = found_name ss other n (ap (number_in ss) e ∙ all.0.1) in
         cc
     by false is = all.0.1
@@ -186,7 +187,7 @@ all_named (slots.Unused ∷ ss) none = unused_more (filter_map number_named ss) 
     unused_more (n ∷ ns) all = (all.0, unused_more ns all.1)
 all_named (slots.Entry number name ∷ ss) none =
     let parts = or_parts (list_any (is_entry_name name) ss) (has_twin ss) none in
-    ((name, ap (λ (t : Bool). cond t (Some number) (number_in ss name)) (name_itself name)), behind_entry number name ss parts.0 (filter_map number_named ss) (all_named ss parts.1))
+    ((name, ap (λ (t : Bool). cond t (Some number) (number_in ss name)) (bytes_itself name)), behind_entry number name ss parts.0 (filter_map number_named ss) (all_named ss parts.1))
 
 -- ---- numbers are within their limits
 

@@ -1,6 +1,6 @@
 -- Slots that are in order, one by one.
 use Rattle.std.proofs.Common.{◌≡◌, ℕ, zero, suc, ◌+◌, ◌-◌, ◌*◌, ◌<◌, Bool, true, false, List, [], ◌∷◌, ◌++◌, length, take, drop, map, refl, sym, ap, ◌∙◌, arith}
-use Rattle.std.specs.Prelude.{◌&&◌, ◌||◌, slice_index_or, nat_eq}
+use Rattle.std.specs.Prelude.{◌&&◌, ◌||◌, slice_index_or}
 use Rattle.std.specs.List.{list_all, list_any}
 use Rattle.block_format.specs.Slot.{SlotFits, slot_in}
 use Rattle.block_format.specs.declared.slot.Slot.{Slot}

@@ -1,12 +1,11 @@
 -- An image that stands for something is spelled with the inodes that are seen.
-use Rattle.std.proofs.Common.{◌≡◌, ℕ, zero, suc, ◌+◌, ◌-◌, ◌*◌, ◌<◌, ◌≤◌, Bool, true, false, cond, List, [], ◌∷◌, ◌++◌, length, take, refl, sym, ap, subst, ◌∙◌, arith}
-use Rattle.std.specs.Prelude.{◌==◌, ◌&&◌, nat_le}
+use Rattle.std.proofs.Common.{◌≡◌, ℕ, ◌-◌, ◌*◌, ◌<◌, ◌≤◌, Bool, true, false, cond, List, [], ◌∷◌, ◌++◌, length, take, refl, ap, subst, ◌∙◌, arith}
+use Rattle.std.specs.Prelude.{◌==◌}
 use Rattle.std.specs.List.{flat_map}
 use Rattle.std.proofs.lemmas.Bool.Decides.{nat_tests}
 use Rattle.std.proofs.lemmas.List.{length-take}
 use Rattle.std.proofs.lemmas.List.Concat.{flat_map-cons}
-use Rattle.vol_numbers.specs.Layout.{Layout, area_start}
-use Rattle.vol_numbers.specs.declared.block.Block.{Block}
+use Rattle.vol_numbers.specs.Layout.{area_start}
 use Rattle.root_switch.specs.Current.{root_of_image}
 use Rattle.block_format.specs.Words.{words}
 use Rattle.block_format.specs.Inode.{blocks_of, inode_shape, pointer_of}
@@ -26,7 +25,7 @@ use Rattle.image_model.proofs.Area.{no_faults}
 use Rattle.image_model.proofs.InodesRead.{blocks_fine, nodes_small, small_at, inodes_stand}
 use Rattle.image_model.proofs.InodeWalk.{HasShapes}
 use Rattle.image_model.proofs.NodePlaces.{numbers_distinct}
-use Rattle.image_model.proofs.NodeWalk.{pairs_of_node, WalkMet, walk_good}
+use Rattle.image_model.proofs.NodeWalk.{pairs_of_node, walk_good}
 use Rattle.image_model.proofs.SpaceLaws.{below_at}
 use Rattle.image_model.proofs.StandingTree.{root_directory, shape_there}
 use Rattle.image_model.proofs.TreeLaws.{first_faults, other_faults, tree_good}

@@ -15,6 +15,7 @@ use Rattle.block_tree.specs.Tree.{Blocks, blocks_in}
 use Rattle.place_words.specs.Different.{is_among, Distinct}
 use Rattle.place_words.proofs.Counting.{distinct_count}
 use Rattle.place_words.proofs.Totals.{different_part}
+use Rattle.dir_slots.specs.Slots.{number_in}
 use Rattle.tree_model.specs.Order.{IsOrdered}
 use Rattle.tree_model.specs.Path.{Path, strip}
 use Rattle.tree_model.specs.Shape.{IsShape, IsTree, shape_of, shape_at}
@@ -27,7 +28,7 @@ use Rattle.tree_model.proofs.Fronts.{strip_is}
 use Rattle.image_model.specs.Laws.{StandingTree}
 use Rattle.image_model.specs.Nodes.{is_empty, is_slot_spelled, has_twin, number_named}
 use Rattle.image_model.specs.Seen.{Seen, seen, seen_from}
-use Rattle.image_model.specs.Slots.{slot_pieces, slots_of, inode_of, number_in, number_along}
+use Rattle.image_model.specs.Slots.{slot_pieces, slots_of, inode_of, number_along}
 use Rattle.image_model.specs.Sound.{IsSound}
 use Rattle.image_model.specs.Stands.{bytes_from, node_of, node_along, layout_in}
 use Rattle.image_model.specs.Walk.{is_used, is_directory, nodes_at}

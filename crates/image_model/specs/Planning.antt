@@ -15,9 +15,9 @@ use Rattle.image_model.specs.Met.{Met, index, metas, files, pointers_to, NoFault
 use Rattle.block_format.specs.declared.inode.Inode.TheVariants as inode
 use Rattle.tree_model.specs.declared.node.Content.TheVariants as content
 use Rattle.image_model.specs.Nodes.{has_tail, is_bad_directory}
-use Rattle.image_model.specs.Slots.{inode_of, number_in, slots_of}
+use Rattle.image_model.specs.Slots.{inode_of, slots_of}
 use Rattle.block_format.specs.declared.slot.Slot.{Slot}
-use Rattle.dir_slots.specs.Slots.{number_in as numbers_in}
+use Rattle.dir_slots.specs.Slots.{number_in}
 use Rattle.image_model.specs.Standing.{some_block, FileStands, DirectoryStands}
 use Rattle.image_model.specs.Plan.{IsPlanned, taken_in}
 use Rattle.place_words.specs.Different.{times}
@@ -63,7 +63,7 @@ CountsAreSpelled = (read : Blocks) (homes : List ℕ) (counts : ℕ → ℕ) (bl
 abbrev pub DirectoryIsSeen : Type 0
 DirectoryIsSeen = (image : List Block) (n : ℕ) (slots : List Slot) (height ptr : ℕ) → NoFaults (seen image).met → inode_of (seen image).nodes n ≡ inode.Directory (length slots) height ptr
     → DirectoryStands (blocks_in image) slots height ptr
-    → (is_bad_directory (seen image) (n, inode.Directory (length slots) height ptr) ≡ false) × ((name : List ℕ) → number_in (slots_of (seen image) n) name ≡ numbers_in slots name)
+    → (is_bad_directory (seen image) (n, inode.Directory (length slots) height ptr) ≡ false) × ((name : List ℕ) → number_in (slots_of (seen image) n) name ≡ number_in slots name)
 
 -- A file that stands in the blocks below its inode is the file that is seen, and has no tail.
 abbrev pub FileIsSeen : Type 0
