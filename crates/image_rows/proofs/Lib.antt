@@ -1,3 +1,4 @@
 pub mod Late
 pub mod LogRows
 pub mod FreshRow
+pub mod PointRows

@@ -52,7 +52,7 @@ use Rattle.image_model.specs.Stands.{node_along}
 
 -- what an image stands for without a record, where nothing is found before the log
 module _ (image : List Block) (none : early_finding image ≡ None) where
-  pub nothing_logged : Stored
+  unfoldable pub nothing_logged : Stored
   nothing_logged = seen_stored image (none_found_stands image none).0 []
 
   pub no_records : length nothing_logged.records ≡ 0
@@ -306,7 +306,7 @@ stands_create zero lt = refl
 stands_create (suc i) lt = absurd (omega arith)
 
 -- the blocks with count 0 are those that are free by the formula
-free_is : (image : List Block) (none : early_finding image ≡ None) → free_in (layout_in image) (seen image).kept ≡ free_blocks (layout_in image) (nothing_logged image none).tree (nothing_logged image none).places
+pub free_is : (image : List Block) (none : early_finding image ≡ None) → free_in (layout_in image) (seen image).kept ≡ free_blocks (layout_in image) (nothing_logged image none).tree (nothing_logged image none).places
 unfolding seen nothing_logged
 free_is image none =
     let sound = none_found_sound image (then_second (root_finding image) _ none) in

@@ -6,6 +6,7 @@ ghost use Rattle.image_rows.specs.Spaces.{WrongCountRows, NoReserveRows};
 ghost use Rattle.image_rows.specs.Orders.{OrderRows};
 ghost use Rattle.image_rows.specs.Logs.{BadLogRows};
 ghost use Rattle.image_rows.specs.Fresh.{FreshIsMet};
+ghost use Rattle.image_rows.specs.Points.{RecordIsMet, PointIsMet};
 ghost use Rattle.image_rows.specs.Sound.{SoundImages};
 
 /// In these images there is no root.
@@ -76,4 +77,14 @@ pub fn bad_log_rows()
 /// What a format leaves can be met.
 pub fn fresh_is_met()
     ensures { FreshIsMet }
+{}
+
+/// An image with a record in its log can be met, and stands for what the record is in.
+pub fn record_is_met()
+    ensures { RecordIsMet }
+{}
+
+/// An image after a point can be met. It has all that a point owes, and stands for what the point made.
+pub fn point_is_met()
+    ensures { PointIsMet }
 {}
