@@ -14,7 +14,8 @@ use Rattle.image_model.specs.Walk.{walk, inodes_from}
 use Rattle.image_model.specs.declared.finding.Finding.TheVariants.{NoReserve, WrongCount}
 use Rattle.image_rows.specs.Images.{small}
 use Rattle.image_rows.specs.Spaces.{third_pointer, counted_behind, fifteen_free}
-use Rattle.image_rows.specs.Orders.{count_and_reserve}
+use Rattle.image_rows.specs.Orders.{count_and_reserve, reserve_and_log}
+use Rattle.image_rows.specs.Firsts.{two_counts}
 use Rattle.image_rows.specs.Sound.{blank, unlike, just_enough}
 
 pub at_third_pointer : early_finding third_pointer ≡ Some (WrongCount 105 3 2)
@@ -48,3 +49,11 @@ at_unlike = refl
 pub at_just_enough : early_finding just_enough ≡ None
 unfolding words inode_in root_in slot_in body_finding tree_finding root_finding seen slots_from walk inodes_from
 at_just_enough = refl
+
+pub at_reserve_and_log : early_finding reserve_and_log ≡ Some (NoReserve 15)
+unfolding words inode_in root_in slot_in body_finding tree_finding root_finding seen slots_from walk inodes_from
+at_reserve_and_log = refl
+
+pub at_two_counts : early_finding two_counts ≡ Some (WrongCount 105 3 2)
+unfolding words inode_in root_in slot_in body_finding tree_finding root_finding seen slots_from walk inodes_from
+at_two_counts = refl

@@ -62,6 +62,17 @@ byte_behind_name = with_blocks ((103, with_byte (directory_block entries) 7 1) �
 abbrev pub used_slot : List Block
 used_slot = with_blocks ((103, with_byte (directory_block entries) 1380 1) ∷ [])
 
+-- the root directory has 17 slots, and its second block is wanting
+abbrev pub second_hole : List Block
+second_hole = with_blocks (
+    (101, inode_block (Unused ∷ Directory 17 1 107 ∷ File 5000 1 104 ∷ File 4096 0 105 ∷ []))
+    ∷ (107, index_block (103 ∷ []))
+    ∷ [])
+
+-- number 3 is a directory of one slot, and has no block
+abbrev pub other_hole : List Block
+other_hole = with_blocks ((101, inode_block (Unused ∷ Directory 2 0 103 ∷ File 5000 1 104 ∷ Directory 1 0 0 ∷ [])) ∷ [])
+
 -- directories that may not be so
 pub record BadDirectoryRows : Type 0 where
   pub found_in_equal_names : early_finding equal_names ≡ Some (BadDirectory 1)
@@ -70,6 +81,8 @@ pub record BadDirectoryRows : Type 0 where
   pub found_in_slash_name : early_finding slash_name ≡ Some (BadDirectory 1)
   pub found_in_byte_behind_name : early_finding byte_behind_name ≡ Some (BadDirectory 1)
   pub found_in_used_slot : early_finding used_slot ≡ Some (BadDirectory 1)
+  pub found_in_second_hole : early_finding second_hole ≡ Some (BadDirectory 1)
+  pub found_in_other_hole : early_finding other_hole ≡ Some (BadDirectory 3)
 
 -- both entries name number 2
 abbrev pub named_twice : List Block

@@ -6,8 +6,8 @@ use Rattle.block_format.specs.declared.inode.Inode.TheVariants.{Unused, File, Di
 use Rattle.block_format.specs.declared.slot.Slot.TheVariants as slots
 use Rattle.place_words.specs.Different.{span}
 use Rattle.image_model.specs.Finds.{early_finding}
-use Rattle.image_model.specs.declared.finding.Finding.TheVariants.{NoRoot, BadGeometry, BadPointer, MixedBlock, BadTail, BadDirectory, NotATree, WrongCount}
-use Rattle.image_rows.specs.Images.{index_block, inode_block, directory_block, count_block, ones, root, entries, counts, with_blocks, with_byte}
+use Rattle.image_model.specs.declared.finding.Finding.TheVariants.{NoRoot, BadGeometry, BadPointer, MixedBlock, BadTail, BadDirectory, NotATree, WrongCount, NoReserve}
+use Rattle.image_rows.specs.Images.{index_block, inode_block, directory_block, count_block, ones, filled, root, entries, counts, with_blocks, with_byte}
 
 -- no shape of a root, and a log of 63 blocks
 abbrev pub root_and_geometry : List Block
@@ -59,6 +59,17 @@ count_and_reserve = with_blocks (
     ∷ (104, index_block (span 105 45))
     ∷ [])
 
+-- 15 blocks are free, and the record in the log is of kind 7
+abbrev pub reserve_and_log : List Block
+reserve_and_log = with_blocks (
+    (1, root_bytes (record root { records = 1; log_used = 1 }))
+    ∷ (3, count_block (ones 101 49))
+    ∷ (5, filled (7 ∷ []))
+    ∷ (101, inode_block (Unused ∷ Directory 1 0 103 ∷ File 184320 1 104 ∷ []))
+    ∷ (103, directory_block (slots.Entry 2 (97 ∷ []) ∷ []))
+    ∷ (104, index_block (span 105 45))
+    ∷ [])
+
 -- the earlier phase
 pub record OrderRows : Type 0 where
   pub found_in_root_and_geometry : early_finding root_and_geometry ≡ Some NoRoot
@@ -69,3 +80,4 @@ pub record OrderRows : Type 0 where
   pub found_in_directory_and_tree : early_finding directory_and_tree ≡ Some (BadDirectory 1)
   pub found_in_tree_and_count : early_finding tree_and_count ≡ Some (NotATree 3)
   pub found_in_count_and_reserve : early_finding count_and_reserve ≡ Some (WrongCount 101 2 1)
+  pub found_in_reserve_and_log : early_finding reserve_and_log ≡ Some (NoReserve 15)

@@ -56,6 +56,21 @@ leaf_behind = with_blocks (
     ∷ (108, index_block (106 ∷ []))
     ∷ [])
 
+-- the second is a directory with the block of the root directory
+abbrev pub page_twice : List Block
+page_twice = with_blocks ((101, inode_block (Unused ∷ Directory 2 0 103 ∷ File 5000 1 104 ∷ Directory 1 0 103 ∷ [])) ∷ [])
+
+-- the first file has 1,025 blocks, and its top index no pointer
+abbrev pub empty_top : List Block
+empty_top = with_blocks (
+    (101, inode_block (Unused ∷ Directory 2 0 103 ∷ File 4198400 2 104 ∷ File 4096 0 105 ∷ []))
+    ∷ (104, index_block [])
+    ∷ [])
+
+-- the second is a directory of no slot, and has a pointer that leads nowhere
+abbrev pub directory_stray : List Block
+directory_stray = with_blocks ((101, inode_block (Unused ∷ Directory 2 0 103 ∷ File 5000 1 104 ∷ Directory 0 0 165 ∷ [])) ∷ [])
+
 -- pointers that may not be so
 pub record BadPointerRows : Type 0 where
   pub found_in_no_index : early_finding no_index ≡ Some (BadPointer 0)
@@ -69,6 +84,9 @@ pub record BadPointerRows : Type 0 where
   pub found_in_leaf_twice : early_finding leaf_twice ≡ Some (BadPointer 103)
   pub found_in_stray_outside : early_finding stray_outside ≡ Some (BadPointer 165)
   pub found_in_leaf_behind : early_finding leaf_behind ≡ Some (BadPointer 109)
+  pub found_in_page_twice : early_finding page_twice ≡ Some (BadPointer 103)
+  pub found_in_empty_top : early_finding empty_top ≡ Some (BadPointer 104)
+  pub found_in_directory_stray : early_finding directory_stray ≡ Some (BadPointer 165)
 
 -- the first file is of kind 3
 abbrev pub third_kind : List Block
@@ -106,6 +124,14 @@ stray_then_kind = with_blocks (
     (101, with_byte (inode_block (Unused ∷ Directory 2 0 103 ∷ File 0 0 165 ∷ File 4096 0 105 ∷ [])) 192 3)
     ∷ [])
 
+-- the second is a directory of no slot, and has a pointer to a block of the area
+abbrev pub directory_inside : List Block
+directory_inside = with_blocks ((101, inode_block (Unused ∷ Directory 2 0 103 ∷ File 5000 1 104 ∷ Directory 0 0 107 ∷ [])) ∷ [])
+
+-- number 0 has no byte and a pointer that leads nowhere
+abbrev pub zero_stray : List Block
+zero_stray = with_blocks ((101, inode_block (File 0 0 165 ∷ Directory 2 0 103 ∷ File 5000 1 104 ∷ File 4096 0 105 ∷ [])) ∷ [])
+
 -- inodes that may not be so
 pub record BadInodeRows : Type 0 where
   pub found_in_third_kind : early_finding third_kind ≡ Some (BadInode 2)
@@ -116,3 +142,5 @@ pub record BadInodeRows : Type 0 where
   pub found_in_used_gap : early_finding used_gap ≡ Some (BadInode 2)
   pub found_in_stray_inside : early_finding stray_inside ≡ Some (BadInode 3)
   pub found_in_stray_then_kind : early_finding stray_then_kind ≡ Some (BadInode 3)
+  pub found_in_directory_inside : early_finding directory_inside ≡ Some (BadInode 3)
+  pub found_in_zero_stray : early_finding zero_stray ≡ Some (BadInode 0)

@@ -4,6 +4,8 @@ ghost use Rattle.image_rows.specs.Walks.{BadPointerRows, BadInodeRows};
 ghost use Rattle.image_rows.specs.Nodes.{MixedBlockRows, BadTailRows, BadDirectoryRows, NotATreeRows};
 ghost use Rattle.image_rows.specs.Spaces.{WrongCountRows, NoReserveRows};
 ghost use Rattle.image_rows.specs.Orders.{OrderRows};
+ghost use Rattle.image_rows.specs.Limits.{LimitRows};
+ghost use Rattle.image_rows.specs.Firsts.{FirstRows};
 ghost use Rattle.image_rows.specs.Logs.{BadLogRows};
 ghost use Rattle.image_rows.specs.Fresh.{FreshIsMet};
 ghost use Rattle.image_rows.specs.Points.{RecordIsMet, PointIsMet};
@@ -87,4 +89,14 @@ pub fn record_is_met()
 /// An image after a point can be met. It has all that a point owes, and stands for what the point made.
 pub fn point_is_met()
     ensures { PointIsMet }
+{}
+
+/// In these images a number is past its limit, or a byte that has to be 0 isn't.
+pub fn limit_rows()
+    ensures { LimitRows }
+{}
+
+/// In these images one phase has two faults, and the first of them is found.
+pub fn first_rows()
+    ensures { FirstRows }
 {}

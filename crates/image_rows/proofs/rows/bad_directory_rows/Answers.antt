@@ -11,7 +11,7 @@ use Rattle.image_model.specs.Slots.{slots_from}
 use Rattle.image_model.specs.Walk.{walk, inodes_from}
 use Rattle.image_model.specs.declared.finding.Finding.TheVariants.{BadDirectory}
 use Rattle.image_model.proofs.Phases.{in_directories}
-use Rattle.image_rows.specs.Nodes.{byte_behind_name, directory_hole, equal_names, slash_name, slot_behind, used_slot}
+use Rattle.image_rows.specs.Nodes.{other_hole, second_hole, byte_behind_name, directory_hole, equal_names, slash_name, slot_behind, used_slot}
 use Rattle.image_rows.proofs.rows.bad_directory_rows.Goals as goal
 
 pub returns : goal.returns
@@ -23,4 +23,6 @@ returns c = record {
   found_in_slash_name = in_directories slash_name (BadDirectory 1) refl refl refl refl refl;
   found_in_byte_behind_name = in_directories byte_behind_name (BadDirectory 1) refl refl refl refl refl;
   found_in_used_slot = in_directories used_slot (BadDirectory 1) refl refl refl refl refl;
+  found_in_second_hole = in_directories second_hole (BadDirectory 1) refl refl refl refl refl;
+  found_in_other_hole = in_directories other_hole (BadDirectory 3) refl refl refl refl refl;
 }

@@ -11,7 +11,7 @@ use Rattle.image_model.specs.Slots.{slots_from}
 use Rattle.image_model.specs.Walk.{walk, inodes_from}
 use Rattle.image_model.specs.declared.finding.Finding.TheVariants.{BadInode}
 use Rattle.image_model.proofs.Phases.{in_walk}
-use Rattle.image_rows.specs.Walks.{none_used, root_file, stray_inside, stray_then_kind, third_kind, used_gap, used_zero, wrong_height}
+use Rattle.image_rows.specs.Walks.{directory_inside, zero_stray, none_used, root_file, stray_inside, stray_then_kind, third_kind, used_gap, used_zero, wrong_height}
 use Rattle.image_rows.proofs.rows.bad_inode_rows.Goals as goal
 
 pub returns : goal.returns
@@ -25,4 +25,6 @@ returns c = record {
   found_in_used_gap = in_walk used_gap (BadInode 2) refl refl;
   found_in_stray_inside = in_walk stray_inside (BadInode 3) refl refl;
   found_in_stray_then_kind = in_walk stray_then_kind (BadInode 3) refl refl;
+  found_in_directory_inside = in_walk directory_inside (BadInode 3) refl refl;
+  found_in_zero_stray = in_walk zero_stray (BadInode 0) refl refl;
 }

@@ -11,7 +11,7 @@ use Rattle.image_model.specs.Slots.{slots_from}
 use Rattle.image_model.specs.Walk.{walk, inodes_from}
 use Rattle.image_model.specs.declared.finding.Finding.TheVariants.{BadPointer}
 use Rattle.image_model.proofs.Phases.{in_walk}
-use Rattle.image_rows.specs.Walks.{block_outside, empty_leaf, entry_outside, entry_twice, index_behind, index_below, leaf_behind, leaf_twice, no_index, place_behind, stray_outside}
+use Rattle.image_rows.specs.Walks.{block_outside, directory_stray, empty_leaf, empty_top, entry_outside, entry_twice, index_behind, index_below, leaf_behind, leaf_twice, no_index, page_twice, place_behind, stray_outside}
 use Rattle.image_rows.proofs.rows.bad_pointer_rows.Goals as goal
 
 pub returns : goal.returns
@@ -28,4 +28,7 @@ returns c = record {
   found_in_leaf_twice = in_walk leaf_twice (BadPointer 103) refl refl;
   found_in_stray_outside = in_walk stray_outside (BadPointer 165) refl refl;
   found_in_leaf_behind = in_walk leaf_behind (BadPointer 109) refl refl;
+  found_in_page_twice = in_walk page_twice (BadPointer 103) refl refl;
+  found_in_empty_top = in_walk empty_top (BadPointer 104) refl refl;
+  found_in_directory_stray = in_walk directory_stray (BadPointer 165) refl refl;
 }

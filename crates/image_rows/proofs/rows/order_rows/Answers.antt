@@ -12,7 +12,7 @@ use Rattle.image_model.specs.Walk.{walk, inodes_from}
 use Rattle.image_model.specs.declared.finding.Finding.TheVariants.{BadDirectory, BadGeometry, BadPointer, BadTail, MixedBlock, NoRoot, NotATree}
 use Rattle.image_model.proofs.Phases.{in_directories, in_mixed, in_root, in_tails, in_tree, in_walk}
 use Rattle.image_rows.specs.Orders.{directory_and_tree, geometry_and_pointer, mixed_and_tail, pointer_and_mixed, root_and_geometry, tail_and_directory, tree_and_count}
-use Rattle.image_rows.proofs.Late.{at_count_and_reserve}
+use Rattle.image_rows.proofs.Late.{at_count_and_reserve, at_reserve_and_log}
 use Rattle.image_rows.proofs.rows.order_rows.Goals as goal
 
 pub returns : goal.returns
@@ -26,4 +26,5 @@ returns c = record {
   found_in_directory_and_tree = in_directories directory_and_tree (BadDirectory 1) refl refl refl refl refl;
   found_in_tree_and_count = in_tree tree_and_count (NotATree 3) refl refl refl refl refl refl;
   found_in_count_and_reserve = at_count_and_reserve;
+  found_in_reserve_and_log = at_reserve_and_log;
 }
