@@ -1,14 +1,14 @@
 -- The entries of a directory in the order of their names are the tree's.
-use Rattle.std.proofs.Common.{◌≡◌, ◌<◌, ◌≤◌, ℕ, zero, suc, ◌+◌, Bool, true, false, cond, List, [], ◌∷◌, ◌++◌, length, map, Some, None, refl, sym, ap, subst, ◌∙◌, arith, add-one, get_or}
+use Rattle.std.proofs.Common.{◌≡◌, ℕ, zero, suc, ◌+◌, Bool, true, false, cond, List, [], ◌∷◌, ◌++◌, map, Some, None, refl, sym, ap, subst, ◌∙◌, arith, get_or}
 use Rattle.std.specs.Prelude.{Option, Result, Ok, Err, IfOk, is_some, filter, bytes_eq, ◌||◌, ◌&&◌, if◌then◌else◌}
 use Rattle.std.specs.Option.{option_map}
-use Rattle.std.specs.Cmp.{IsTotalOrder, IsStrictWeakOrder, tied_itself}
+use Rattle.std.specs.Cmp.{IsStrictWeakOrder, tied_itself}
 use Rattle.std.specs.Cmp.Lexicographic.{slice_cmp, nat_list_cmp_total}
 use Rattle.std.specs.FinMap.{slice_cmp-IsAntisymmetric, nat_cmp-IsAntisymmetric}
 use Rattle.std.specs.FinMap.Entries.{find, is_sorted, below_all, same_entries}
-use Rattle.std.specs.List.{IsDistinct, AllByRecursion, All, list_any, filter_map, cons_option}
+use Rattle.std.specs.List.{IsDistinct, AllByRecursion, All, cons_option}
 use Rattle.std.specs.List.Sorted.{IsPermutation, IsSortedBy}
-use Rattle.std.specs.Ordering.{nat_cmp, is_lt, is_eq, eq_by_cmp, ordering_reverse, ordering_then}
+use Rattle.std.specs.Ordering.{nat_cmp, is_lt, is_eq, ordering_reverse, ordering_then}
 use Rattle.std.specs.Set.{is_member}
 use Rattle.std.specs.declared.cmp.Ordering.{Ordering}
 use Rattle.std.specs.declared.cmp.Ordering.TheVariants.{Less, Equal, Greater}
@@ -28,11 +28,11 @@ use Rattle.tree_model.proofs.Accepted.{walked}
 use Rattle.tree_model.specs.Tree.{Tree, node_at, entries_of, entry_below, kind_of}
 use Rattle.tree_model.specs.declared.node.Node.{Node}
 use Rattle.tree_model.specs.declared.reply.Entry as entries
-use Rattle.tree_model.proofs.AttemptLaws.{true_T, T_true}
+use Rattle.tree_model.proofs.AttemptLaws.{true_T}
 use Rattle.tree_model.proofs.EntryCounts.{ordered_rest}
 use Rattle.tree_model.proofs.Fronts.{strip_is}
 use Rattle.tree_model.proofs.Paths.{same_name}
-use Rattle.node_table.proofs.CountLaws.{names_in, name_sym, slot_member, slots_distinct, rest_once, names_of, entry_member}
+use Rattle.node_table.proofs.CountLaws.{names_in, name_sym, slot_member, slots_distinct, rest_once, entry_member}
 use Rattle.node_table.proofs.NumberLaws.{in_whole, at_head}
 use Rattle.node_table.specs.Held.{Nodes, HoldsNodes, held, info, info_of, slots_of}
 use Rattle.node_table.specs.declared.held.HeldNode.{HeldNode}
@@ -46,7 +46,7 @@ use Rattle.node_table.proofs.RefusalLaws.{AreDirectories}
 use Rattle.node_table.proofs.WalkLaws.{look_is, look_there}
 use Rattle.node_table.proofs.ShapeLaws.{bytes_itself, same_bytes, none_below}
 use Rattle.node_table.proofs.SlotNumbers.{none_later}
-use Rattle.node_table.specs.Listing.{kind_at, kind_in, entry_in, listed, is_before, AreEntries}
+use Rattle.node_table.specs.Listing.{kind_at, kind_in, listed, is_before, AreEntries}
 
 abbrev pub EntryOf : Type 0
 EntryOf = entries.Entry

@@ -82,11 +82,7 @@ impl NodeTable {
         }
     }
 
-    fn in_order(
-        &self,
-        alloc: Global,
-        directory: &CountedDirectory,
-    ) -> Result<EntryList, AllocError>
+    fn in_order(&self, alloc: Global, directory: &CountedDirectory) -> Result<EntryList, AllocError>
         ensures { IfOk result (λ entries. AreEntries self.now directory.now entries) }
     {
         let mut entries = self.listed(alloc, directory)?;
@@ -95,11 +91,7 @@ impl NodeTable {
     }
 
     /// The entries in the order of their slots.
-    fn listed(
-        &self,
-        alloc: Global,
-        directory: &CountedDirectory,
-    ) -> Result<Vec<Entry>, AllocError>
+    fn listed(&self, alloc: Global, directory: &CountedDirectory) -> Result<Vec<Entry>, AllocError>
         ensures { IfOk result (λ entries. entries.items ≡ listed self.now (filter is_used directory.now)) }
     {
         let slots = directory.entries(alloc)?;

@@ -240,7 +240,12 @@ fn lists_so(alloc: Global, table: &NodeTable) -> bool {
 
 fn session(alloc: Global) -> Result<bool, Fail> {
     let mut table = NodeTable::new(alloc)?;
-    Ok(goes_so(alloc, &mut table)? && is_left(alloc, &table)? && is_wide(alloc, &table)? && lists_so(alloc, &table))
+    Ok(
+        goes_so(alloc, &mut table)?
+            && is_left(alloc, &table)?
+            && is_wide(alloc, &table)?
+            && lists_so(alloc, &table),
+    )
 }
 
 fn one_entry(alloc: Global) -> Option<Directory> {
