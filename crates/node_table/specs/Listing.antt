@@ -19,6 +19,7 @@ use Rattle.node_table.specs.declared.held.NodeInfo.TheVariants as infos
 use Rattle.node_table.specs.Counts.{count}
 use Rattle.node_table.specs.Held.{Nodes, held, info, slots_of}
 
+-- the kind of a node
 abbrev pub kind_in : NodeInfo → Kind
 kind_in (infos.File size) = kinds.File
 kind_in (infos.Directory width) = kinds.Directory
@@ -28,6 +29,7 @@ abbrev pub size_in : Nodes → ℕ → NodeInfo → ℕ
 size_in nodes number (infos.File size) = size
 size_in nodes number (infos.Directory width) = count (slots_of (held nodes number))
 
+-- what is told of a node
 abbrev pub stat_of : Nodes → FoundNode → Reply
 stat_of nodes found = Stat (kind_in found.info) found.number (size_in nodes found.number found.info)
 
@@ -38,6 +40,7 @@ abbrev pub kind_at : Option HeldNode → Kind
 kind_at None = kinds.File
 kind_at (Some node) = kind_in (info node)
 
+-- the entry in a slot, with the kind of its node
 abbrev pub entry_in : Nodes → Slot → Option entries.Entry
 entry_in nodes Unused = None
 entry_in nodes (Entry number name) = Some (record { kind = kind_at (held nodes number); number = number; name = name })

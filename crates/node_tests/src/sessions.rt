@@ -238,14 +238,13 @@ fn lists_so(alloc: Global, table: &NodeTable) -> bool {
     }
 }
 
+fn all_is_left(alloc: Global, table: &NodeTable) -> Result<bool, Fail> {
+    Ok(is_left(alloc, table)? && is_wide(alloc, table)? && lists_so(alloc, table))
+}
+
 fn session(alloc: Global) -> Result<bool, Fail> {
     let mut table = NodeTable::new(alloc)?;
-    Ok(
-        goes_so(alloc, &mut table)?
-            && is_left(alloc, &table)?
-            && is_wide(alloc, &table)?
-            && lists_so(alloc, &table),
-    )
+    Ok(goes_so(alloc, &mut table)? && all_is_left(alloc, &table)?)
 }
 
 fn one_entry(alloc: Global) -> Option<Directory> {
