@@ -15,7 +15,7 @@ use Rattle.volume_model.specs.Done.{done}
 use Rattle.volume_model.specs.Laws.{LegalIs, ExcusesAreFew, SomeIsLegal, RepliesAreTheTrees, NextTree, NextStored, recorded}
 use Rattle.volume_model.specs.Legal.{changes, is_due, is_full, reply_to, is_outside, is_excuse, when_answered, MayReport, Replies, IsLegal, is_done, answer_after, answer_with, fresh_told}
 use Rattle.volume_model.specs.Machine.{Machine, Rules, stored, free_of}
-use Rattle.volume_model.specs.Point.{IsPoint, after_point, report_of, fresh_in}
+use Rattle.volume_model.specs.Point.{after_point, fresh_in}
 use Rattle.volume_model.proofs.LineLaws.{points_exist}
 
 -- ---- which answers are legal

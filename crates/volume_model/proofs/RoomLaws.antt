@@ -1,8 +1,7 @@
 -- A change that is answered as done has room.
-use Rattle.std.proofs.Common.{◌≡◌, ℕ, ◌+◌, ◌*◌, ◌/◌, ◌<◌, ◌≤◌, Bool, true, false, not, cond, List, [], ◌∷◌, length, Some, None, inl, inr, refl, sym, ap, subst, ◌∙◌, arith, length-append}
+use Rattle.std.proofs.Common.{◌≡◌, ℕ, ◌+◌, ◌/◌, ◌≤◌, Bool, true, false, not, cond, List, [], ◌∷◌, length, Some, None, inl, inr, refl, sym, ap, subst, ◌∙◌, arith, length-append}
 use Rattle.std.specs.Prelude.{◌&&◌, ◌||◌, ◌⊎◌, Option, is_some, nat_lt}
 use Rattle.std.proofs.lemmas.Bool.Decides.{nat_tests}
-use Rattle.vol_numbers.specs.Layout.{IsValid}
 use Rattle.tree_model.specs.declared.command.Command.{Command}
 use Rattle.tree_model.specs.declared.command.Command.TheVariants.{Mkdir, Create, Write, Truncate, Remove, Rename, Read, List as ListOf, Stat, Layout, Space, Checkpoint, End}
 use Rattle.tree_model.specs.declared.refusal.Refusal.{Refusal}
@@ -40,7 +39,7 @@ one_path path is = omega (arith, path_long path, is.limits.length_at_most)
 record_fits : (c : Command) → HasRecord c → record_blocks c ≤ 64
 record_fits (Mkdir path) has = few_blocks _ (omega (arith, one_path path has))
 record_fits (Create path) has = few_blocks _ (omega (arith, one_path path has))
-record_fits (Write path offset bytes) has = few_blocks _ (omega (arith, one_path path has.0, has.2.2))
+record_fits (Write path offset bytes) has = few_blocks _ (omega (arith, one_path path has.0, has.3))
 record_fits (Truncate path size) has = few_blocks _ (omega (arith, one_path path has.0))
 record_fits (Remove path) has = few_blocks _ (omega (arith, one_path path has))
 record_fits (Rename from to) has = few_blocks _ (omega (arith, one_path from has.0, one_path to has.1))
@@ -59,7 +58,7 @@ reply_is m Space e = cc
 reply_is m (Layout path) e = cc
 reply_is m c e = refl
 
-due_is : (m : Machine) (c : Command) → is_change c ≡ true → is_due m c ≡ (changes m c && (not (is_nothing m.records) && lacks_room m c))
+due_is : (m : Machine) (c : Command) → is_change c ≡ true → is_due m c ≡ ((changes m c && not (is_nothing m.records)) && lacks_room m c)
 due_is m Checkpoint e = cc
 due_is m c e = refl
 
@@ -127,7 +126,7 @@ room m c change ok why = by (is_nothing m.records) refl why
     by : (t : Bool) → is_nothing m.records ≡ t → (is_nothing m.records ≡ true) ⊎ (is_due m c ≡ false) → HasRoom m c
     by true e why = alone m c e (done_changes m c change ok).1
     by false e (inl nothing) = let never : true ≡ false = sym nothing ∙ e in cc
-    by false e (inr none) = behind m c ((λ i. sym (done_changes m c change ok).0 i && (not (sym e i) && lacks_room m c)) ∙ sym (due_is m c change) ∙ none)
+    by false e (inr none) = behind m c ((λ i. (sym (done_changes m c change ok).0 i && not (sym e i)) && lacks_room m c) ∙ sym (due_is m c change) ∙ none)
 
 -- ---- the answers
 
