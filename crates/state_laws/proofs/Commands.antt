@@ -158,9 +158,9 @@ done_last (first ∷ commands) m command = done_last commands (done m first) com
 tree_of : (m : Machine) → IsWhatItStores m → tree_after m.stored_tree m.records ≡ m.tree
 tree_of m is = sym (done_tree m.records (at_point m.layout m.stored_tree m.stored_places m.point [])) ∙ ap (λ (x : Machine). x.tree) is
 
-last_has : {P : Command → Type 0} (commands : List Command) (command : Command) → All P (commands ++ command ∷ []) → P command
-last_has {P = P} [] command all = All-head P command [] all
-last_has {P = P} (first ∷ commands) command all = last_has commands command (All-tail P first (commands ++ command ∷ []) all)
+last_has : (commands : List Command) (command : Command) → All HasRecord (commands ++ command ∷ []) → HasRecord command
+last_has [] command all = All-head HasRecord command [] all
+last_has (first ∷ commands) command all = last_has commands command (All-tail HasRecord first (commands ++ command ∷ []) all)
 
 mountable_now : (m : Machine) (command : Command) → IsMountable (stored m) → IsWhatItStores m → IsAccepted m.tree command → HasRoom m command → IsMountable (stored (done m command))
 mountable_now m command mountable is one room = record {
@@ -174,7 +174,7 @@ mountable_now m command mountable is one room = record {
       accepts_more (free_of m) m.stored_tree 0 m.records command mountable.accepted
         (ap (λ (t : Tree). (step t command).0) (tree_of m is) ∙ changes_are_done m.tree command one.change one.accepted) (omega (arith, room.space));
   fits = λ valid recorded.
-      omega (arith, log_more m.records command, room.log valid (last_has {P = HasRecord} m.records command recorded));
+      omega (arith, log_more m.records command, room.log valid (last_has m.records command recorded));
 }
 
 stores_now : (m : Machine) (command : Command) → IsWhatItStores m → IsWhatItStores (done m command)

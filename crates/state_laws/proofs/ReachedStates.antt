@@ -1,10 +1,8 @@
 -- Each legal answer leaves a state coherent, and so every state that is reached is.
-use Rattle.std.proofs.Common.{◌≡◌, ◌<◌, Bool, true, false, cond, Some, None, [], inl, inr, refl, sym, ap, subst, ◌∙◌, arith}
+use Rattle.std.proofs.Common.{◌≡◌, ◌<◌, Bool, true, false, cond, Some, None, inl, inr, refl, sym, ap, subst, ◌∙◌, arith}
 use Rattle.std.specs.Prelude.{◌&&◌, ◌||◌, Option}
 use Rattle.std.proofs.lemmas.List.Elements.{All-nil}
 use Rattle.tree_model.specs.declared.command.Command.{Command}
-use Rattle.tree_model.specs.declared.command.Command.TheVariants.{Layout, Space, Checkpoint, End}
-use Rattle.tree_model.specs.declared.refusal.Refusal.{Refusal}
 use Rattle.tree_model.specs.declared.refusal.Refusal.TheVariants.{NoSpace}
 use Rattle.tree_model.specs.declared.reply.Reply.{Reply}
 use Rattle.tree_model.specs.declared.reply.Reply.TheVariants as reply
@@ -16,7 +14,7 @@ use Rattle.tree_model.specs.Tree.{Tree}
 use Rattle.tree_model.proofs.RefusalLaws.{changes_are_done}
 use Rattle.space_account.specs.Charge.{need}
 use Rattle.volume_model.specs.Done.{done}
-use Rattle.volume_model.specs.Legal.{IsLegal, Replies, MayReport, changes, is_full, is_due, is_done, is_excuse, is_outside, reply_to, when_answered, next}
+use Rattle.volume_model.specs.Legal.{IsLegal, Replies, MayReport, changes, is_full, is_due, is_done, is_excuse, is_outside, when_answered, next}
 use Rattle.volume_model.specs.Machine.{Machine, Rules, block_at, free_of}
 use Rattle.volume_model.specs.Places.{Spot, has_spot, spots_of}
 use Rattle.volume_model.specs.Point.{IsPoint, after_point, placed_after, fresh_in}
