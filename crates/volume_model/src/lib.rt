@@ -6,7 +6,7 @@ mod report_laws;
 mod sequence;
 
 pub use laws::{
-    always_whole, excuses_are_few, fresh_are_unused, fresh_lines_are, legal_is, mounted_stores,
+    always_whole, done_has_room, excuses_are_few, fresh_are_unused, fresh_lines_are, legal_is, mounted_stores,
     next_stored, next_tree, one_point, one_selection, pieces_are, point_fits, points_exist,
     replies_are_the_trees, selected_is, some_is_legal, use_keeps,
 };

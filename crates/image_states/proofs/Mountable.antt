@@ -1,0 +1,60 @@
+-- What an image stands for can be mounted.
+use Rattle.std.proofs.Common.{◌≡◌, ℕ, ◌+◌, true, List, [], ◌∷◌, refl, sym, ap, subst, ◌∙◌, arith}
+use Rattle.std.specs.Prelude.{All}
+use Rattle.std.proofs.lemmas.List.Elements.{All-nil, All-cons}
+use Rattle.vol_numbers.specs.Layout.{Layout}
+use Rattle.vol_numbers.specs.declared.block.Block.{Block}
+use Rattle.tree_model.specs.declared.command.Command.{Command}
+use Rattle.tree_model.specs.declared.command.Command.TheVariants.{Mkdir, Create, Write, Truncate, Remove, Rename, Read, List as ListOf, Stat, Layout as LayoutOf, Space, Checkpoint, End}
+use Rattle.tree_model.specs.Step.{is_change}
+use Rattle.op_log.specs.Log.{RecordsStand}
+use Rattle.op_log.specs.Record.{HasRecord, record_blocks}
+use Rattle.volume_model.specs.Accepted.{Accepts}
+use Rattle.volume_model.specs.Places.{InOrder}
+use Rattle.volume_model.specs.Space.{free_blocks}
+use Rattle.volume_model.proofs.WholeLaws.{mounted_stores}
+use Rattle.image_model.specs.Stands.{Stands, layout_in}
+use Rattle.image_model.proofs.PlaceOrder.{places_in_order}
+use Rattle.image_model.proofs.StandingTree.{standing_tree}
+use Rattle.state_laws.specs.States.{mount}
+use Rattle.image_states.specs.Laws.{StandingIsMountable, MountingIsReached}
+use Rattle.image_states.proofs.SeenPlaces.{none, in_files, holes, reads_block}
+
+-- a command that has a record may change the tree
+recorded_changes : (c : Command) → HasRecord c → is_change c ≡ true
+recorded_changes (Mkdir path) has = refl
+recorded_changes (Create path) has = refl
+recorded_changes (Write path offset []) has = absurd (omega (arith, has.2))
+recorded_changes (Write path offset (byte ∷ bytes)) has = refl
+recorded_changes (Truncate path size) has = refl
+recorded_changes (Remove path) has = refl
+recorded_changes (Rename from to) has = refl
+recorded_changes (Read path offset len) has = absurd has
+recorded_changes (ListOf path) has = absurd has
+recorded_changes (Stat path) has = absurd has
+recorded_changes (LayoutOf path) has = absurd has
+recorded_changes Space has = absurd has
+recorded_changes Checkpoint has = absurd has
+recorded_changes End has = absurd has
+
+all_change : (image : List Block) (at : ℕ) (commands : List Command) → RecordsStand image at commands → All (λ (c : Command). is_change c ≡ true) commands
+all_change image at [] stand = All-nil (λ (c : Command). is_change c ≡ true)
+all_change image at (c ∷ cs) stand = All-cons (λ (c : Command). is_change c ≡ true) c cs (recorded_changes c stand.0) (all_change image (at + record_blocks c) cs stand.2)
+
+pub standing_is_mountable : StandingIsMountable
+standing_is_mountable image s stands = record {
+  tree = standing_tree image s stands;
+  in_order = subst InOrder (sym stands.shows.places) (places_in_order image (none image s stands));
+  in_files = in_files image s stands;
+  holes = holes image s stands;
+  same = λ a b block at_a at_b. reads_block image s stands a block at_a ∙ sym (reads_block image s stands b block at_b);
+  changes = all_change image _ s.records stands.logs.logged.stand;
+  accepted = subst (λ (g : Layout). Accepts (free_blocks g s.tree s.places) s.tree 0 s.records) (sym stands.layout) stands.logs.accepted;
+  fits = λ valid recorded. let log : s.layout.log_blocks ≡ (layout_in image).log_blocks = ap (λ (g : Layout). g.log_blocks) stands.layout in omega (arith, stands.logs.filled, stands.fits.geometry.log_fits, log);
+}
+
+pub mounting_is_reached : MountingIsReached
+mounting_is_reached = record {
+  reached = λ r image s stands. mount s (standing_is_mountable image s stands);
+  stands = λ image s stands. subst (Stands image) (sym (mounted_stores s)) stands;
+}

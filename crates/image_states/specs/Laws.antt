@@ -1,0 +1,16 @@
+-- What holds of what an image stands for.
+use Rattle.std.specs.Prelude.{List}
+use Rattle.vol_numbers.specs.declared.block.Block.{Block}
+use Rattle.volume_model.specs.Done.{mounted}
+use Rattle.volume_model.specs.Machine.{Rules, Stored, stored}
+use Rattle.image_model.specs.Stands.{Stands}
+use Rattle.state_laws.specs.States.{IsMountable, IsReached}
+
+-- What an image stands for can be mounted.
+abbrev pub StandingIsMountable : Type 0
+StandingIsMountable = (image : List Block) (s : Stored) → Stands image s → IsMountable s
+
+-- The state that is mounted from an image is reached, and stores what the image stands for.
+pub record MountingIsReached : Type 0 where
+  pub reached : (r : Rules) (image : List Block) (s : Stored) → Stands image s → IsReached r (mounted s)
+  pub stands : (image : List Block) (s : Stored) → Stands image s → Stands image (stored (mounted s))
