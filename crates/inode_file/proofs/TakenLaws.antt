@@ -1,8 +1,8 @@
 -- Numbers that are put into a set or taken out of it.
 use Rattle.std.proofs.Common.{◌≡◌, ◌≢◌, ◌<◌, ℕ, Bool, true, false, List, length, ap, sym, subst, ◌∙◌, arith}
 use Rattle.std.specs.Prelude.{◌||◌, ◌&&◌, not, nat_eq, nat_lt, slice_set, if◌then◌else◌}
-use Rattle.std.specs.Cmp.{nat_cmp_total}
-use Rattle.std.specs.Ordering.{nat_cmp, eq_by_cmp}
+use Rattle.std.specs.Cmp.{nat_cmp_total, unsigned_tied}
+use Rattle.std.specs.Ordering.{nat_cmp}
 use Rattle.std.specs.FinSet as set
 use Rattle.std.proofs.lemmas.Bool.Decides.{nat_tests}
 use Rattle.block_format.specs.declared.inode.Inode.{Inode}
@@ -15,9 +15,6 @@ pub record SetsNumber (old : set.FinSet nat_cmp) (n : ℕ) (present : Bool) (new
   pub here : set.contains new n ≡ present
   pub others : (m : ℕ) → m ≢ n → set.contains new m ≡ set.contains old m
 
-tied : (m n : ℕ) → eq_by_cmp nat_cmp m n ≡ nat_eq m n
-tied m n = grind (arith, nat_tests)
-
 itself : (n : ℕ) → nat_eq n n ≡ true
 itself n = grind (arith, nat_tests)
 
@@ -26,12 +23,12 @@ another m n ne = grind (arith, nat_tests)
 
 pub number_written : (old : set.FinSet nat_cmp) (n : ℕ) (present : Bool) → SetsNumber old n present (if present then set.insert old n else set.remove old n)
 number_written old n true = record {
-  here = set.contains-insert nat_cmp_total old n n ∙ ap (λ (b : Bool). b || set.contains old n) (tied n n ∙ itself n);
-  others = λ m ne. set.contains-insert nat_cmp_total old n m ∙ ap (λ (b : Bool). b || set.contains old m) (tied m n ∙ another m n ne);
+  here = set.contains-insert nat_cmp_total old n n ∙ ap (λ (b : Bool). b || set.contains old n) (unsigned_tied n n ∙ itself n);
+  others = λ m ne. set.contains-insert nat_cmp_total old n m ∙ ap (λ (b : Bool). b || set.contains old m) (unsigned_tied m n ∙ another m n ne);
 }
 number_written old n false = record {
-  here = set.contains-remove nat_cmp_total old n n ∙ ap (λ (b : Bool). not b && set.contains old n) (tied n n ∙ itself n);
-  others = λ m ne. set.contains-remove nat_cmp_total old n m ∙ ap (λ (b : Bool). not b && set.contains old m) (tied m n ∙ another m n ne);
+  here = set.contains-remove nat_cmp_total old n n ∙ ap (λ (b : Bool). not b && set.contains old n) (unsigned_tied n n ∙ itself n);
+  others = λ m ne. set.contains-remove nat_cmp_total old n m ∙ ap (λ (b : Bool). not b && set.contains old m) (unsigned_tied m n ∙ another m n ne);
 }
 
 -- the inode of one number is set
