@@ -3,7 +3,7 @@ use Rattle.std.specs.Prelude.{nat_eq}
 use Rattle.number_set.specs.Bits.{full_word}
 use Rattle.number_set.proofs.MemberLaws.{written_members}
 use Rattle.number_set.proofs.SumLaws.{summed_written, read_at}
-use Rattle.number_set.proofs.set.NumberSet.write.Goals as goal
+use Rattle.number_set.proofs.set.NumberSet.set.Goals as goal
 
 pub invariant_of-self : goal.invariant_of-self
 invariant_of-self c =
