@@ -39,15 +39,16 @@ use Rattle.image_model.proofs.FileLaws.{drop_twice}
 use Rattle.image_model.proofs.NodePlaces.{numbers, numbers_distinct, held_append, no_pages, file_pages, directory_pairs, is_of, pages_at}
 use Rattle.image_model.proofs.NodeWalk.{pairs_of_node, walk_good}
 use Rattle.image_model.proofs.Paths.{same_name, name_itself}
+use Rattle.image_model.proofs.SlotTests.{slot_passes}
 use Rattle.image_model.proofs.SpaceLaws.{below_at, under}
 
 -- ---- the slots of a number
 
-abbrev Pieces : Type 0
+abbrev pub Pieces : Type 0
 Pieces = List (Slot × List ℕ)
 
 -- the slots of the blocks of these pairs
-abbrev pieces_in : Blocks → List (ℕ × ℕ) → Pieces
+abbrev pub pieces_in : Blocks → List (ℕ × ℕ) → Pieces
 pieces_in read pairs = flat_map (λ (e : ℕ × ℕ). slots_from 16 (read e.1)) pairs
 
 pieces_append : (xs ys : List Held) (n : ℕ) → slot_pieces (xs ++ ys) n ≡ slot_pieces xs n ++ slot_pieces ys n
@@ -59,7 +60,7 @@ pieces_append (h ∷ hs) ys n = by (h.number == n) (pieces_append hs ys n)
     by false more = more
 
 module _ (read : Blocks) (n : ℕ) where
-  abbrev pieces : List Met → Pieces
+  abbrev pub pieces : List Met → Pieces
   pieces ms = slot_pieces (all_held (page_held read) ms) n
 
   own : (m : ℕ) → nat_eq m n ≡ true → (pairs : List (ℕ × ℕ)) → pieces (map (λ (e : ℕ × ℕ). page m e.0 e.1) pairs) ≡ pieces_in read pairs
@@ -70,10 +71,10 @@ module _ (read : Blocks) (n : ℕ) where
   other m apart [] = refl
   other m apart (e ∷ es) = λ i. cond (apart i) (slots_from 16 (read e.1)) [] ++ other m apart es i
 
-  met_append : (xs ys : List Met) → pieces (xs ++ ys) ≡ pieces xs ++ pieces ys
+  pub met_append : (xs ys : List Met) → pieces (xs ++ ys) ≡ pieces xs ++ pieces ys
   met_append xs ys = ap (λ (hs : List Held). slot_pieces hs n) (held_append (page_held read) xs ys) ∙ pieces_append (all_held (page_held read) xs) (all_held (page_held read) ys) n
 
-  none_indexes : (bs : List ℕ) → pieces (map index bs) ≡ []
+  pub none_indexes : (bs : List ℕ) → pieces (map index bs) ≡ []
   none_indexes bs = ap (λ (hs : List Held). slot_pieces hs n) (no_pages read bs)
 
   none_contents : (m : ℕ) (pairs : List (ℕ × ℕ)) → pieces (map (λ (e : ℕ × ℕ). content m e.0 e.1) pairs) ≡ []
@@ -99,7 +100,7 @@ module _ (read : Blocks) (n : ℕ) where
       let parts = or_parts (nat_eq node.0 n) (is_among (numbers nodes) n) out in
       ap pieces (flat_map-cons (node_trees read) node nodes) ∙ met_append (node_trees read node) (flat_map (node_trees read) nodes) ∙ (λ i. node_other node parts.0 i ++ nodes_none nodes parts.1 i)
 
-  nodes_pieces : (nodes : List (ℕ × Inode)) → Distinct (numbers nodes) → pieces (flat_map (node_trees read) nodes) ≡ pieces_in read (directory_pairs read (inode_of nodes n))
+  pub nodes_pieces : (nodes : List (ℕ × Inode)) → Distinct (numbers nodes) → pieces (flat_map (node_trees read) nodes) ≡ pieces_in read (directory_pairs read (inode_of nodes n))
   nodes_pieces [] distinct = refl
   nodes_pieces (node ∷ nodes) distinct =
       ap pieces (flat_map-cons (node_trees read) node nodes) ∙ met_append (node_trees read node) (flat_map (node_trees read) nodes) ∙ by (nat_eq node.0 n) refl (nodes_pieces nodes distinct.1)
@@ -115,11 +116,11 @@ module _ (read : Blocks) (n : ℕ) where
 -- ---- a directory without a hole
 
 -- places with their blocks
-abbrev placed : (ℕ → ℕ) → ℕ → ℕ × ℕ
+abbrev pub placed : (ℕ → ℕ) → ℕ → ℕ × ℕ
 placed block p = (p, block p)
 
 -- rising pairs that have each place of a span are those of the span
-full_pairs : (k n : ℕ) (pairs : List (ℕ × ℕ)) → Rising k (places_in pairs) → AllUnder (k + n) (places_in pairs) → ((p : ℕ) → k ≤ p → p < k + n → (block_in pairs p == 0) ≡ false)
+pub full_pairs : (k n : ℕ) (pairs : List (ℕ × ℕ)) → Rising k (places_in pairs) → AllUnder (k + n) (places_in pairs) → ((p : ℕ) → k ≤ p → p < k + n → (block_in pairs p == 0) ≡ false)
     → pairs ≡ map (placed (block_in pairs)) (span k n)
 full_pairs k zero [] rising lies there = refl
 full_pairs k zero (e ∷ es) rising lies there = absurd (omega (arith, rising.0, lies.0))
@@ -198,48 +199,9 @@ module _ (ss : List Slot) (directory : IsDirectory ss) where
         ∙ sym (map-append spelled (span (16 * place) 16) (span (16 * place + 16) (16 * n)))
         ∙ ap (map spelled) (sym (span_split (16 * place) 16 (16 * n)) ∙ ap (span (16 * place)) whole)
 
-  -- ---- what is said of them
-
-  name_good : (name : List ℕ) → IsName name → is_name name ≡ true
-  name_good name is =
-      let low : nat_le 1 (length name) ≡ true = let a = is.some in grind (arith, nat_tests) in
-      let high : nat_le (length name) 250 ≡ true = let b = is.at_most in grind (arith, nat_tests) in
-      and_both _ _ (and_both _ _ (and_both _ _ (and_both _ _ low high) (plain name is.plain)) (other (46 ∷ []) is.not_dot)) (other (46 ∷ 46 ∷ []) is.not_dots)
-    where
-      and_both : (a b : Bool) → a ≡ true → b ≡ true → (a && b) ≡ true
-      and_both true b e f = f
-      and_both false b e f = cc
-
-      apart : (b c : ℕ) → b ≢ c → not (b == c) ≡ true
-      apart b c never = let no : (b == c) ≡ false = grind (arith, nat_tests) in ap not no
-
-      plain : (bytes : List ℕ) → All (λ b. (b ≢ 0) × (b ≢ 47)) bytes → list_all (λ b. not (b == 0) && not (b == 47)) bytes ≡ true
-      plain [] all = refl
-      plain (b ∷ bytes) all =
-          let here = All-head (λ b. (b ≢ 0) × (b ≢ 47)) b bytes all in
-          and_both (not (b == 0) && not (b == 47)) (list_all (λ b. not (b == 0) && not (b == 47)) bytes) (and_both _ _ (apart b 0 here.0) (apart b 47 here.1)) (plain bytes (All-tail (λ b. (b ≢ 0) × (b ≢ 47)) b bytes all))
-
-      other : (dots : List ℕ) → (name ≡ dots → ⊥) → not (bytes_eq name dots) ≡ true
-      other dots never = by (bytes_eq name dots) refl
-        where
-          by : (t : Bool) → bytes_eq name dots ≡ t → not t ≡ true
-          by true e = absurd (never ((bytes_eq-Decides name dots).0 e))
-          by false e = refl
-
-  spelled_good : (slot : Slot) → SlotFits slot → is_slot_spelled slot (slot_bytes slot) ≡ true
-  spelled_good slots.Unused fits = (bytes_eq-Decides (slot_bytes slots.Unused) (slot_bytes slots.Unused)).1 refl
-  spelled_good (slots.Entry number name) fits =
-      let low : nat_le 1 number ≡ true = let a = fits.0 in grind (arith, nat_tests) in
-      let high : nat_le number 65535 ≡ true = let b = fits.1 in grind (arith, nat_tests) in
-      and_both _ _ (and_both _ _ (and_both _ _ low high) (name_good name fits.2)) ((bytes_eq-Decides (slot_bytes (slots.Entry number name)) (slot_bytes (slots.Entry number name))).1 refl)
-    where
-      and_both : (a b : Bool) → a ≡ true → b ≡ true → (a && b) ≡ true
-      and_both true b e f = f
-      and_both false b e f = cc
-
   all_good : (k n : ℕ) → list_all (λ (p : Slot × List ℕ). is_slot_spelled p.0 p.1) (map spelled (span k n)) ≡ true
   all_good k zero = refl
-  all_good k (suc n) = ap (λ (t : Bool). t && list_all (λ (p : Slot × List ℕ). is_slot_spelled p.0 p.1) (map spelled (span (k + 1) n))) (spelled_good (slot_at ss k) (directory.fits k)) ∙ all_good (k + 1) n
+  all_good k (suc n) = ap (λ (t : Bool). t && list_all (λ (p : Slot × List ℕ). is_slot_spelled p.0 p.1) (map spelled (span (k + 1) n))) (slot_passes (slot_at ss k) (directory.fits k)) ∙ all_good (k + 1) n
 
 -- slots by their places, from one on, are these slots and unused ones
 slots_between : (at : ℕ → Slot) (k : ℕ) (ss : List Slot) (m : ℕ) → ((i : ℕ) → at (k + i) ≡ slice_index_or ss i slots.Unused) → map at (span k (length ss + m)) ≡ ss ++ replicate m slots.Unused

@@ -106,7 +106,7 @@ pair_at : List (ℕ × ℕ) → ℕ → Option ℕ
 pair_at [] p = None
 pair_at (e ∷ es) p = cond (e.0 == p) (Some e.1) (pair_at es p)
 
-abbrev AllSome : List (ℕ × ℕ) → Type 0
+abbrev pub AllSome : List (ℕ × ℕ) → Type 0
 AllSome es = AllByRecursion (λ (e : ℕ × ℕ). (e.1 == 0) ≡ false) es
 
 some_append : (xs ys : List (ℕ × ℕ)) → AllSome xs → AllSome ys → AllSome (xs ++ ys)
@@ -125,7 +125,7 @@ leaves_some : (read : Blocks) (place : ℕ) (ps : List ℕ) → AllSome (leaves_
 leaves_some read place [] = tt
 leaves_some read place (p ∷ ps) = some_append (pairs_from place (index_at read p)) _ (from_some place (index_at read p)) (leaves_some read (place + 1024) ps)
 
-pairs_some : (read : Blocks) (height ptr : ℕ) → AllSome (pairs_below read height ptr)
+pub pairs_some : (read : Blocks) (height ptr : ℕ) → AllSome (pairs_below read height ptr)
 pairs_some read zero ptr = from_some 0 (ptr ∷ [])
 pairs_some read (suc zero) ptr = from_some 0 (index_at read ptr)
 pairs_some read (suc (suc height)) ptr = leaves_some read 0 (index_at read ptr)

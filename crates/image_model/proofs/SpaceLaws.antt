@@ -41,10 +41,10 @@ use Rattle.image_model.proofs.TreeNodes.{keys, Leads, all_lead, keys_distinct, k
 
 -- ---- the bytes of a file are as many as its size says
 
-held_length : (bytes : List ℕ) → length (take 4096 (bytes ++ replicate 4096 0)) ≡ 4096
+pub held_length : (bytes : List ℕ) → length (take 4096 (bytes ++ replicate 4096 0)) ≡ 4096
 held_length bytes = omega (arith, length-take 4096 (bytes ++ replicate 4096 0), length-append bytes (replicate 4096 0), length-replicate {A = ℕ} 4096 0)
 
-bytes_length : (held : List Held) (n place k : ℕ) → length (bytes_from held n place k) ≡ 4096 * k
+pub bytes_length : (held : List Held) (n place k : ℕ) → length (bytes_from held n place k) ≡ 4096 * k
 bytes_length held n place zero = refl
 bytes_length held n place (suc k) =
     let here = take 4096 (held_at held n place ++ replicate 4096 0) in
@@ -63,7 +63,7 @@ places_length : (pairs : List (ℕ × ℕ)) → length (map (λ (e : ℕ × ℕ)
 places_length [] = refl
 places_length (e ∷ pairs) = ap suc (places_length pairs)
 
-full_places : (read : Blocks) (blocks height ptr : ℕ) → AllBelow blocks (pairs_below read height ptr) → length (pairs_below read height ptr) ≡ blocks → map (λ (e : ℕ × ℕ). e.0) (pairs_below read height ptr) ≡ span 0 blocks
+pub full_places : (read : Blocks) (blocks height ptr : ℕ) → AllBelow blocks (pairs_below read height ptr) → length (pairs_below read height ptr) ≡ blocks → map (λ (e : ℕ × ℕ). e.0) (pairs_below read height ptr) ≡ span 0 blocks
 full_places read blocks height ptr below full = rising_full 0 blocks _ (pairs_rise read height ptr) (under blocks (pairs_below read height ptr) below) (places_length (pairs_below read height ptr) ∙ full)
 
 -- ---- what is known of each node by its number
@@ -159,7 +159,7 @@ tree_groups [] = refl
 tree_groups (e ∷ t) = ap (λ (ns : List ℕ). e.1.number / 64 ∷ ns) (tree_groups t)
 
 -- the first test of a directory that isn't bad
-count_first : (a b c d : Bool) → (((not a || b) || c) || d) ≡ false → a ≡ true
+pub count_first : (a b c d : Bool) → (((not a || b) || c) || d) ≡ false → a ≡ true
 count_first true b c d e = refl
 count_first false b c d e = cc
 

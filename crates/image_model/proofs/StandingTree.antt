@@ -49,7 +49,7 @@ any_among (node ∷ ns) any = by (node.0 == 1) (is_directory node.1) any (any_am
     by true u any more = refl
     by false u any more = more any
 
-root_directory : (ns : List (ℕ × Inode)) → Distinct (numbers ns) → list_any (λ (node : ℕ × Inode). node.0 == 1 && is_directory node.1) ns ≡ true → is_directory (inode_of ns 1) ≡ true
+pub root_directory : (ns : List (ℕ × Inode)) → Distinct (numbers ns) → list_any (λ (node : ℕ × Inode). node.0 == 1 && is_directory node.1) ns ≡ true → is_directory (inode_of ns 1) ≡ true
 root_directory [] distinct any = cc
 root_directory (node ∷ ns) distinct any = by (node.0 == 1) refl (is_directory node.1) refl any (root_directory ns distinct.1)
   where
@@ -65,7 +65,7 @@ root_directory (node ∷ ns) distinct any = by (node.0 == 1) refl (is_directory 
 
 -- ---- nodes
 
-shape_there : (ns : List (ℕ × Inode)) → HasShapes ns → (n : ℕ) → is_used (inode_of ns n) ≡ true → inode_shape (inode_of ns n) ≡ true
+pub shape_there : (ns : List (ℕ × Inode)) → HasShapes ns → (n : ℕ) → is_used (inode_of ns n) ≡ true → inode_shape (inode_of ns n) ≡ true
 shape_there [] shapes n used = cc
 shape_there (node ∷ ns) shapes n used = by (node.0 == n) used (shape_there ns shapes.1 n)
   where
@@ -73,23 +73,23 @@ shape_there (node ∷ ns) shapes n used = by (node.0 == n) used (shape_there ns 
     by true used more = shapes.0.0
     by false used more = more used
 
-first_test : (a b : Bool) → (a && b) ≡ true → a ≡ true
+pub first_test : (a b : Bool) → (a && b) ≡ true → a ≡ true
 first_test true b e = refl
 first_test false b e = cc
 
-abbrev node_with : ℕ → Content → Node
+abbrev pub node_with : ℕ → Content → Node
 node_with n c = record { number = n; content = c }
 
-content_is : (n : ℕ) (c d : Content) → Some (node_with n c) ≡ Some (node_with n d) → c ≡ d
+pub content_is : (n : ℕ) (c d : Content) → Some (node_with n c) ≡ Some (node_with n d) → c ≡ d
 content_is n c d e = let same : node_with n c ≡ node_with n d = cc in ap (λ (x : Node). x.content) same
 
-file_same : (a b : List ℕ) → tree.File a ≡ tree.File b → a ≡ b
+pub file_same : (a b : List ℕ) → tree.File a ≡ tree.File b → a ≡ b
 file_same a b e = cc
 
-width_same : (v w : ℕ) → tree.Directory v ≡ tree.Directory w → v ≡ w
+pub width_same : (v w : ℕ) → tree.Directory v ≡ tree.Directory w → v ≡ w
 width_same v w e = cc
 
-apart : (bytes : List ℕ) (w : ℕ) → tree.File bytes ≡ tree.Directory w → ⊥
+pub apart : (bytes : List ℕ) (w : ℕ) → tree.File bytes ≡ tree.Directory w → ⊥
 apart bytes w e = cc
 
 -- of a directory's node the width, and of a file's the size, are within their limits

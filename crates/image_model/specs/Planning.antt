@@ -11,7 +11,7 @@ use Rattle.volume_model.specs.Machine.{Machine, Rules, Stored}
 use Rattle.volume_model.specs.Point.{after_point}
 use Rattle.volume_model.specs.Places.{Places, Spot, spot_cmp, InOrder}
 use Rattle.image_model.specs.Fresh.{IsFresh, fresh_inode, fresh_stored}
-use Rattle.image_model.specs.Met.{index, metas, NoFaults}
+use Rattle.image_model.specs.Met.{Met, index, metas, files, pointers_to, NoFaults}
 use Rattle.block_format.specs.declared.inode.Inode.TheVariants as inode
 use Rattle.tree_model.specs.declared.node.Content.TheVariants as content
 use Rattle.image_model.specs.Nodes.{has_tail, is_bad_directory}
@@ -90,3 +90,7 @@ pub record PointPlaces : Type 0 where
   pub seen : (image : List Block) (r : Rules) (m : Machine) (fresh : List ℕ) → NoFaults (seen image).met → InOrder m.kept
       → ((spot : Spot) → find spot_cmp spot (map spot_of (seen image).contents) ≡ find spot_cmp spot (after_point r m fresh).stored_places)
       → map spot_of (seen image).contents ≡ (after_point r m fresh).stored_places
+
+-- Where no fault is met, the pointers to a block are those to metadata and those of files.
+abbrev pub PointersAreListed : Type 0
+PointersAreListed = (met : List Met) (b : ℕ) → NoFaults met → pointers_to b met ≡ times b (metas met) + times b (files met)

@@ -1,7 +1,7 @@
 //! Laws of what a point plans and leaves.
 ghost use Rattle.image_model.specs.Planning.{PointStands, AssembledStands, PlanLeads, FreshHasPoint, InodesAreSeen, WalkIsSpelled};
 ghost use Rattle.image_model.specs.Planning.{CountsAreSpelled, DirectoryIsSeen, FileIsSeen, PlacesAreSeen, PlacesInOrder, SamePlaces};
-ghost use Rattle.image_model.specs.Planning.{PointPlaces};
+ghost use Rattle.image_model.specs.Planning.{PointPlaces, PointersAreListed};
 
 /// After a point an image stands for the tree and the places that the point made.
 pub fn point_stands()
@@ -66,4 +66,9 @@ pub fn same_places()
 /// The places after a point are in order, and are those that are seen where each has its block.
 pub fn point_places()
     ensures { PointPlaces }
+{}
+
+/// Where no fault is met, the pointers to a block are those to metadata and those of files.
+pub fn pointers_are_listed()
+    ensures { PointersAreListed }
 {}
