@@ -45,7 +45,7 @@ block_group (suc m) k n bytes le lt =
     one_node (is_used (inode_in (take 64 bytes))) k n (inode_in (take 64 bytes)) (nodes_of (inodes_from m (n + 1) (drop 64 bytes))) (omega (arith, le, lt)) (block_group m k (n + 1) (drop 64 bytes) (omega (arith, le)) (omega (arith, lt)))
 
 -- where one is used, there is a node
-some_used : (inodes : List (ℕ × List ℕ)) → list_any (λ x. is_used (inode_in x.1)) inodes ≡ true → 1 ≤ length (nodes_of inodes)
+pub some_used : (inodes : List (ℕ × List ℕ)) → list_any (λ x. is_used (inode_in x.1)) inodes ≡ true → 1 ≤ length (nodes_of inodes)
 some_used [] any = cc
 some_used ((n, bytes) ∷ inodes) any = by (is_used (inode_in bytes)) any (some_used inodes)
   where
@@ -61,12 +61,12 @@ shape_first : (a b c : Bool) → ((a && b) && c) ≡ true → a ≡ true
 shape_first true b c e = refl
 shape_first false b c e = e
 
-good_none : (t : Bool) (n : ℕ) → NoFaults (cond t [] (not_inode n ∷ [])) → (t ≡ true) × (cond t [] (not_inode n ∷ []) ≡ [])
+pub good_none : (t : Bool) (n : ℕ) → NoFaults (cond t [] (not_inode n ∷ [])) → (t ≡ true) × (cond t [] (not_inode n ∷ []) ≡ [])
 good_none true n none = (refl, refl)
 good_none false n none = absurd none.0
 
 -- an inode that isn't good is a fault, whichever
-fault_none : (t u : Bool) (n p : ℕ) → NoFaults (cond t [] (cond u (stray n p ∷ []) (not_inode n ∷ []))) → (t ≡ true) × (cond t [] (cond u (stray n p ∷ []) (not_inode n ∷ [])) ≡ [])
+pub fault_none : (t u : Bool) (n p : ℕ) → NoFaults (cond t [] (cond u (stray n p ∷ []) (not_inode n ∷ []))) → (t ≡ true) × (cond t [] (cond u (stray n p ∷ []) (not_inode n ∷ [])) ≡ [])
 fault_none true u n p none = (refl, refl)
 fault_none false true n p none = absurd none.0
 fault_none false false n p none = absurd none.0

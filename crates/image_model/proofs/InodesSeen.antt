@@ -16,7 +16,7 @@ use Rattle.image_model.specs.Walk.{is_used, walk}
 use Rattle.image_model.proofs.PlanLaws.{faults_append, index_fine, nodes_fine}
 use Rattle.image_model.proofs.WalkSpelled.{walk_spelled, nodes_spelled}
 
-unused_is : (x : Inode) → is_used x ≡ false → Unused ≡ x
+pub unused_is : (x : Inode) → is_used x ≡ false → Unused ≡ x
 unused_is Unused e = refl
 unused_is (File size height ptr) e = cc
 unused_is (Directory width height ptr) e = cc

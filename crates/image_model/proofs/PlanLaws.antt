@@ -37,7 +37,7 @@ used_same f g n zero same = refl
 used_same f g n (suc m) same = λ i. cond (is_used (same n (omega arith) i)) ((n, same n (omega arith) i) ∷ []) [] ++ used_same f g (n + 1) m (λ k le. same k (omega (arith, le))) i
 
 -- a number below all of them is unused
-unused_below : (nodes : List (ℕ × Inode)) (n : ℕ) → Rising (n + 1) (numbers nodes) → inode_of nodes n ≡ Unused
+pub unused_below : (nodes : List (ℕ × Inode)) (n : ℕ) → Rising (n + 1) (numbers nodes) → inode_of nodes n ≡ Unused
 unused_below [] n rising = refl
 unused_below (node ∷ nodes) n rising =
     let le = rising.0 in
