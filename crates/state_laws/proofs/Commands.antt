@@ -172,7 +172,7 @@ mountable_now m command mountable is one room = record {
   changes = All-push (λ (c : Command). is_change c ≡ true) m.records command mountable.changes one.change;
   accepted =
       accepts_more (free_of m) m.stored_tree 0 m.records command mountable.accepted
-        (ap (λ (t : Tree). (step t command).0) (tree_of m is) ∙ changes_are_done m.tree command one.change one.accepted) (omega (arith, room.space));
+      (ap (λ (t : Tree). (step t command).0) (tree_of m is) ∙ changes_are_done m.tree command one.change one.accepted) (omega (arith, room.space));
   fits = λ valid recorded.
       omega (arith, log_more m.records command, room.log valid (last_has m.records command recorded));
 }
@@ -249,7 +249,7 @@ all_right : (r : Rules) (free charged : ℕ) (commands : List Command) (m : Mach
 all_right r free charged [] m is changes all = is
 all_right r free charged (command ∷ commands) m is changes all =
     all_right r free (charged + charge command) commands (done m command) (done_right r m command is (one_accepted m.tree command (All-head (λ (c : Command). is_change c ≡ true) command commands changes) all.0))
-      (All-tail (λ (c : Command). is_change c ≡ true) command commands changes) all.2
+    (All-tail (λ (c : Command). is_change c ≡ true) command commands changes) all.2
 
 first_right : (r : Rules) (s : Stored) → IsMountable s → IsRight r (at_point s.layout s.tree s.places s.point [])
 first_right r s is = record {
@@ -275,4 +275,4 @@ first_right r s is = record {
 pub mounted_coherent : (r : Rules) (s : Stored) → IsMountable s → IsCoherent r (mounted s)
 mounted_coherent r s is =
     coherent_of r (mounted s) (subst IsMountable (sym (mounted_stores s)) is)
-      (all_right r (free_blocks s.layout s.tree s.places) 0 s.records (at_point s.layout s.tree s.places s.point []) (first_right r s is) is.changes is.accepted)
+    (all_right r (free_blocks s.layout s.tree s.places) 0 s.records (at_point s.layout s.tree s.places s.point []) (first_right r s is) is.changes is.accepted)

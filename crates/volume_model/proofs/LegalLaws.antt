@@ -37,7 +37,7 @@ some_is_legal = record {
   due = λ r m command fresh due ordered may.
       let points = points_exist r m fresh ordered may in
       subst (λ (t : Bool). IsLegal r m command (answer_after r m command fresh t)) (sym due)
-        (record { report = (due, points.0); reply = inl (due, ap (λ (f : List ℕ). reply_to (after_point r m f) command) (sym points.1)) });
+      (record { report = (due, points.0); reply = inl (due, ap (λ (f : List ℕ). reply_to (after_point r m f) command) (sym points.1)) });
   not_due = λ r m command none. subst (λ (t : Bool). IsLegal r m command (answer_after r m command [] t)) (sym none) (record { report = tt; reply = inl (none, refl) });
 }
 
