@@ -1,7 +1,7 @@
 -- What an image stands for can be mounted.
 use Rattle.std.proofs.Common.{◌≡◌, ℕ, ◌+◌, ◌≤◌, true, List, [], ◌∷◌, refl, sym, ap, subst, ◌∙◌, arith}
 use Rattle.std.specs.Prelude.{All}
-use Rattle.std.proofs.lemmas.List.Elements.{All-nil, All-cons}
+use Rattle.std.proofs.lemmas.List.Elements.{All-nil, All-cons, All-weaker}
 use Rattle.vol_numbers.specs.Layout.{Layout, IsValid}
 use Rattle.vol_numbers.specs.declared.block.Block.{Block}
 use Rattle.tree_model.specs.declared.command.Command.{Command}
@@ -39,10 +39,6 @@ recorded_changes Space has = absurd has
 recorded_changes Checkpoint has = absurd has
 recorded_changes End has = absurd has
 
-all_change : (image : List Block) (at : ℕ) (commands : List Command) → RecordsStand image at commands → All (λ (c : Command). is_change c ≡ true) commands
-all_change image at [] stand = All-nil (λ (c : Command). is_change c ≡ true)
-all_change image at (c ∷ cs) stand = All-cons (λ (c : Command). is_change c ≡ true) c cs (recorded_changes c stand.0) (all_change image (at + record_blocks c) cs stand.2)
-
 all_recorded : (image : List Block) (at : ℕ) (commands : List Command) → RecordsStand image at commands → All HasRecord commands
 all_recorded image at [] stand = All-nil HasRecord
 all_recorded image at (c ∷ cs) stand = All-cons HasRecord c cs stand.0 (all_recorded image (at + record_blocks c) cs stand.2)
@@ -66,7 +62,7 @@ standing_is_mountable image s stands = record {
   in_files = in_files image s stands;
   holes = holes image s stands;
   same = λ a b block at_a at_b. reads_block image s stands a block at_a ∙ sym (reads_block image s stands b block at_b);
-  changes = all_change image _ s.records stands.logs.logged.stand;
+  changes = All-weaker HasRecord (λ (c : Command). is_change c ≡ true) recorded_changes s.records (all_recorded image _ s.records stands.logs.logged.stand);
   accepted = subst (λ (g : Layout). Accepts (free_blocks g s.tree s.places) s.tree 0 s.records) (sym stands.layout) stands.logs.accepted;
   fits = λ valid recorded. log_fits image s stands;
 }
