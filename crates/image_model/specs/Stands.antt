@@ -1,5 +1,5 @@
 -- What an image stands for.
-use Rattle.std.specs.Prelude.{◌≡◌, ◌≤◌, ℕ, zero, suc, ◌+◌, List, [], ◌∷◌, ◌++◌, length, take, map, replicate, Option, Some, None, option_and_then}
+use Rattle.std.specs.Prelude.{◌≡◌, ℕ, zero, suc, ◌+◌, List, [], ◌++◌, length, take, map, replicate, Option, Some, None, option_and_then}
 use Rattle.vol_numbers.specs.Layout.{Layout, log_start}
 use Rattle.vol_numbers.specs.declared.block.Block.{Block}
 use Rattle.root_switch.specs.Current.{root_of_image, HasRoot, FitsImage}
@@ -8,8 +8,7 @@ use Rattle.block_format.specs.declared.inode.Inode.{Inode}
 use Rattle.block_format.specs.declared.inode.Inode.TheVariants.{Unused, File, Directory}
 use Rattle.tree_model.specs.Path.{Path}
 use Rattle.tree_model.specs.Order.{IsOrdered}
-use Rattle.tree_model.specs.Tree.{Tree, node_at}
-use Rattle.tree_model.specs.declared.command.Command.{Command}
+use Rattle.tree_model.specs.Tree.{node_at}
 use Rattle.tree_model.specs.declared.node.Node.{Node}
 use Rattle.tree_model.specs.declared.node.Content.TheVariants as tree
 use Rattle.op_log.specs.Log.{HoldsRecords, blocks_of as log_blocks_of}

@@ -1,8 +1,8 @@
 -- What an image stands for can be mounted.
-use Rattle.std.proofs.Common.{◌≡◌, ℕ, ◌+◌, true, List, [], ◌∷◌, refl, sym, ap, subst, ◌∙◌, arith}
+use Rattle.std.proofs.Common.{◌≡◌, ℕ, ◌+◌, ◌≤◌, true, List, [], ◌∷◌, refl, sym, ap, subst, ◌∙◌, arith}
 use Rattle.std.specs.Prelude.{All}
-use Rattle.std.proofs.lemmas.List.Elements.{All-nil, All-cons}
-use Rattle.vol_numbers.specs.Layout.{Layout}
+use Rattle.std.proofs.lemmas.List.Elements.{All-nil, All-cons, All-weaker}
+use Rattle.vol_numbers.specs.Layout.{Layout, IsValid}
 use Rattle.vol_numbers.specs.declared.block.Block.{Block}
 use Rattle.tree_model.specs.declared.command.Command.{Command}
 use Rattle.tree_model.specs.declared.command.Command.TheVariants.{Mkdir, Create, Write, Truncate, Remove, Rename, Read, List as ListOf, Stat, Layout as LayoutOf, Space, Checkpoint, End}
@@ -10,6 +10,8 @@ use Rattle.tree_model.specs.Step.{is_change}
 use Rattle.op_log.specs.Log.{RecordsStand}
 use Rattle.op_log.specs.Record.{HasRecord, record_blocks}
 use Rattle.volume_model.specs.Accepted.{Accepts}
+use Rattle.volume_model.specs.LogUse.{log_use}
+use Rattle.volume_model.specs.Machine.{Stored}
 use Rattle.volume_model.specs.Places.{InOrder}
 use Rattle.volume_model.specs.Space.{free_blocks}
 use Rattle.volume_model.proofs.WholeLaws.{mounted_stores}
@@ -17,7 +19,7 @@ use Rattle.image_model.specs.Stands.{Stands, layout_in}
 use Rattle.image_model.proofs.PlaceOrder.{places_in_order}
 use Rattle.image_model.proofs.StandingTree.{standing_tree}
 use Rattle.state_laws.specs.States.{mount}
-use Rattle.image_states.specs.Laws.{StandingIsMountable, MountingIsReached}
+use Rattle.image_states.specs.Laws.{StandingIsMountable, StandingFits, MountingIsReached}
 use Rattle.image_states.proofs.SeenPlaces.{none, in_files, holes, reads_block}
 
 -- a command that has a record may change the tree
@@ -37,9 +39,21 @@ recorded_changes Space has = absurd has
 recorded_changes Checkpoint has = absurd has
 recorded_changes End has = absurd has
 
-all_change : (image : List Block) (at : ℕ) (commands : List Command) → RecordsStand image at commands → All (λ (c : Command). is_change c ≡ true) commands
-all_change image at [] stand = All-nil (λ (c : Command). is_change c ≡ true)
-all_change image at (c ∷ cs) stand = All-cons (λ (c : Command). is_change c ≡ true) c cs (recorded_changes c stand.0) (all_change image (at + record_blocks c) cs stand.2)
+all_recorded : (image : List Block) (at : ℕ) (commands : List Command) → RecordsStand image at commands → All HasRecord commands
+all_recorded image at [] stand = All-nil HasRecord
+all_recorded image at (c ∷ cs) stand = All-cons HasRecord c cs stand.0 (all_recorded image (at + record_blocks c) cs stand.2)
+
+log_fits : (image : List Block) (s : Stored) → Stands image s → log_use s.records ≤ s.layout.log_blocks
+log_fits image s stands =
+    let log : s.layout.log_blocks ≡ (layout_in image).log_blocks = ap (λ (g : Layout). g.log_blocks) stands.layout in
+    omega (arith, stands.logs.filled, stands.fits.geometry.log_fits, log)
+
+pub standing_fits : StandingFits
+standing_fits = record {
+  valid = λ image s stands. subst IsValid (sym stands.layout) stands.fits.geometry.valid;
+  recorded = λ image s stands. all_recorded image _ s.records stands.logs.logged.stand;
+  fits = log_fits;
+}
 
 pub standing_is_mountable : StandingIsMountable
 standing_is_mountable image s stands = record {
@@ -48,9 +62,9 @@ standing_is_mountable image s stands = record {
   in_files = in_files image s stands;
   holes = holes image s stands;
   same = λ a b block at_a at_b. reads_block image s stands a block at_a ∙ sym (reads_block image s stands b block at_b);
-  changes = all_change image _ s.records stands.logs.logged.stand;
+  changes = All-weaker HasRecord (λ (c : Command). is_change c ≡ true) recorded_changes s.records (all_recorded image _ s.records stands.logs.logged.stand);
   accepted = subst (λ (g : Layout). Accepts (free_blocks g s.tree s.places) s.tree 0 s.records) (sym stands.layout) stands.logs.accepted;
-  fits = λ valid recorded. let log : s.layout.log_blocks ≡ (layout_in image).log_blocks = ap (λ (g : Layout). g.log_blocks) stands.layout in omega (arith, stands.logs.filled, stands.fits.geometry.log_fits, log);
+  fits = λ valid recorded. log_fits image s stands;
 }
 
 pub mounting_is_reached : MountingIsReached

@@ -43,9 +43,6 @@ unused_bytes s n (File size height ptr) e = cc
 unused_bytes s n (Directory width height ptr) e = cc
 
 module _ (image : List Block) (s : Stored) (stands : Stands image s) where
-  abbrev nodes : List (ℕ × Inode)
-  nodes = (seen image).nodes
-
   among : (es : Tree) → AllByRecursion (λ (e : Path × Node). Leads (seen image) e.0 e.1) es → (n : ℕ)
       → bytes_numbered n es ≡ cond (is_among (keys es) n) (seen_bytes (seen image) n (inode_of (seen image).nodes n)) []
   among [] all n = refl

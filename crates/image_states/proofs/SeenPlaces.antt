@@ -71,12 +71,6 @@ unfolding zero_block
 zeros_are = ap (take 4096) (sym (append-nil (replicate 4096 0))) ∙ take_at (replicate 4096 0) [] 4096 (length-replicate {A = ℕ} 4096 0)
 
 module _ (image : List Block) (s : Stored) (stands : Stands image s) where
-  abbrev read : Blocks
-  read = blocks_in image
-
-  abbrev inode : ℕ → Inode
-  inode n = inode_of (seen image).nodes n
-
   pub none : NoFaults (seen image).met
   none = no_faults (layout_in image) (seen image).met (seen image).met stands.sound.pointers
 
