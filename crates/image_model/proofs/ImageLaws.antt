@@ -11,6 +11,7 @@ use Rattle.tree_model.specs.declared.command.Command.{Command}
 use Rattle.op_log.specs.Log.{HoldsRecords, blocks_of}
 use Rattle.op_log.specs.Record.{record_blocks}
 use Rattle.op_log.proofs.LogLemmas.{one_log, used_blocks_tell, one_record_more}
+use Rattle.volume_model.specs.Accepted.{Accepts}
 use Rattle.volume_model.specs.Machine.{Stored}
 use Rattle.volume_model.specs.Space.{free_blocks}
 use Rattle.image_model.specs.Laws.{OneMeaning}
@@ -18,7 +19,7 @@ use Rattle.image_model.specs.Live.{IsLive, logged, KeepsLive}
 use Rattle.image_model.specs.Next.{HasNext, and_command}
 use Rattle.image_model.specs.Seen.{Seen, seen}
 use Rattle.image_model.specs.Sound.{IsSound}
-use Rattle.image_model.specs.Stands.{Stands, Shows, Accepts, layout_in, used_in}
+use Rattle.image_model.specs.Stands.{Stands, Shows, layout_in, used_in}
 use Rattle.image_model.proofs.Kept.{seen-same}
 
 pub one_meaning : OneMeaning

@@ -10,12 +10,13 @@ use Rattle.op_log.specs.Log.{HoldsRecords, RecordsStand, blocks_of}
 use Rattle.op_log.specs.Record.{record_blocks}
 use Rattle.op_log.proofs.LogLemmas.{one_log}
 use Rattle.space_account.specs.Charge.{charge}
+use Rattle.volume_model.specs.Accepted.{Accepts}
 use Rattle.volume_model.specs.Machine.{Stored}
 use Rattle.volume_model.specs.Places.{Places}
 use Rattle.volume_model.specs.Space.{free_blocks}
 use Rattle.image_model.specs.Finds.{HasAccepted}
 use Rattle.image_model.specs.Next.{and_command}
-use Rattle.image_model.specs.Stands.{Accepts, layout_in, used_in}
+use Rattle.image_model.specs.Stands.{layout_in, used_in}
 
 stand_front : (image : List Block) (at : ℕ) (cs ds : List Command) → RecordsStand image at (cs ++ ds) → RecordsStand image at cs
 stand_front image at [] ds all = tt

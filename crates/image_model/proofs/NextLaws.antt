@@ -7,6 +7,7 @@ use Rattle.tree_model.specs.Step.{step}
 use Rattle.tree_model.specs.Tree.{Tree}
 use Rattle.tree_model.specs.declared.command.Command.{Command}
 use Rattle.tree_model.specs.declared.reply.Reply.TheVariants as reply
+use Rattle.volume_model.specs.Accepted.{Accepts}
 use Rattle.volume_model.specs.Done.{all_done, done, mounted}
 use Rattle.volume_model.specs.Machine.{Machine, Stored, at_point}
 use Rattle.volume_model.specs.Places.{Places, spot_cmp, InOrder, all_put}
@@ -14,7 +15,6 @@ use Rattle.volume_model.specs.Lines.{lines_places}
 use Rattle.volume_model.specs.Point.{after_point, placed_at, fresh_spots, share_lines}
 use Rattle.image_model.specs.Laws.{AcceptedMore}
 use Rattle.image_model.specs.Planning.{PointPlaces}
-use Rattle.image_model.specs.Stands.{Accepts}
 use Rattle.image_model.proofs.PlaceOrder.{places_in_order, same_places, spot_total, true_T, T_true}
 
 -- the tree after these commands

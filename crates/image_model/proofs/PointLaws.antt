@@ -8,6 +8,7 @@ use Rattle.root_switch.specs.Current.{root_of_image}
 use Rattle.place_words.specs.Different.{is_among, times}
 use Rattle.tree_model.specs.declared.command.Command.{Command}
 use Rattle.op_log.specs.Log.{HoldsRecords, blocks_of}
+use Rattle.volume_model.specs.Accepted.{Accepts}
 use Rattle.volume_model.specs.Machine.{Stored}
 use Rattle.volume_model.specs.Space.{free_blocks}
 use Rattle.image_model.specs.Findings.{is_in_area, free_in}
@@ -17,7 +18,7 @@ use Rattle.image_model.specs.Point.{HasPoint, IsAssembled}
 use Rattle.image_model.specs.Seen.{seen}
 use Rattle.block_tree.specs.Tree.{blocks_in}
 use Rattle.image_model.specs.Sound.{AllGood, IsNamed}
-use Rattle.image_model.specs.Stands.{Stands, Shows, Accepts, layout_in, used_in}
+use Rattle.image_model.specs.Stands.{Stands, Shows, layout_in, used_in}
 use Rattle.image_model.proofs.Area.{split_none, split, among_times, not_among_times, alone}
 use Rattle.image_model.proofs.LocalTree.{tree_is, named}
 use Rattle.image_model.proofs.SpaceLaws.{free_seen}

@@ -4,13 +4,14 @@ use Rattle.vol_numbers.specs.Layout.{log_start}
 use Rattle.vol_numbers.specs.declared.block.Block.{Block}
 use Rattle.tree_model.specs.declared.command.Command.{Command}
 use Rattle.op_log.specs.Log.{HoldsRecords, blocks_of}
+use Rattle.volume_model.specs.Accepted.{Accepts}
 use Rattle.volume_model.specs.Machine.{Stored}
 use Rattle.volume_model.specs.Space.{free_blocks}
 use Rattle.image_model.specs.Findings.{◌then◌, body_finding}
 use Rattle.image_model.specs.Next.{and_command}
 use Rattle.image_model.specs.Roots.{root_finding}
 use Rattle.image_model.specs.Seen.{seen}
-use Rattle.image_model.specs.Stands.{Shows, Accepts, layout_in, records_in, used_in}
+use Rattle.image_model.specs.Stands.{Shows, layout_in, records_in, used_in}
 use Rattle.image_model.specs.declared.finding.Finding.{Finding}
 use Rattle.image_model.specs.declared.finding.Finding.TheVariants.{BadLog}
 

@@ -14,6 +14,7 @@ use Rattle.tree_model.specs.declared.command.Command.{Command}
 use Rattle.space_account.specs.Charge.{need, pending}
 use Rattle.tree_model.specs.Step.{step}
 use Rattle.tree_model.specs.declared.reply.Reply.TheVariants as reply
+use Rattle.volume_model.specs.Accepted.{Accepts}
 use Rattle.volume_model.specs.Machine.{Stored}
 use Rattle.volume_model.specs.Done.{mounted}
 use Rattle.volume_model.specs.Space.{free_blocks}
@@ -24,7 +25,7 @@ use Rattle.image_model.specs.Live.{IsLive, KeepsLive, OpensNoLive}
 use Rattle.image_model.specs.Next.{HasNext, and_command}
 use Rattle.image_model.specs.Seen.{Seen, seen}
 use Rattle.image_model.specs.Sound.{IsNamed}
-use Rattle.image_model.specs.Stands.{Stands, Accepts, layout_in, node_along, used_in}
+use Rattle.image_model.specs.Stands.{Stands, layout_in, node_along, used_in}
 
 -- An image stands for one thing at most.
 abbrev pub OneMeaning : Type 0

@@ -1,5 +1,5 @@
 -- What an image stands for.
-use Rattle.std.specs.Prelude.{◌≡◌, ◌≤◌, ℕ, zero, suc, ◌+◌, List, [], ◌∷◌, ◌++◌, length, take, map, replicate, Option, Some, None, option_and_then}
+use Rattle.std.specs.Prelude.{◌≡◌, ℕ, zero, suc, ◌+◌, List, [], ◌++◌, length, take, map, replicate, Option, Some, None, option_and_then}
 use Rattle.vol_numbers.specs.Layout.{Layout, log_start}
 use Rattle.vol_numbers.specs.declared.block.Block.{Block}
 use Rattle.root_switch.specs.Current.{root_of_image, HasRoot, FitsImage}
@@ -8,14 +8,11 @@ use Rattle.block_format.specs.declared.inode.Inode.{Inode}
 use Rattle.block_format.specs.declared.inode.Inode.TheVariants.{Unused, File, Directory}
 use Rattle.tree_model.specs.Path.{Path}
 use Rattle.tree_model.specs.Order.{IsOrdered}
-use Rattle.tree_model.specs.Step.{step}
-use Rattle.tree_model.specs.Tree.{Tree, node_at}
-use Rattle.tree_model.specs.declared.command.Command.{Command}
+use Rattle.tree_model.specs.Tree.{node_at}
 use Rattle.tree_model.specs.declared.node.Node.{Node}
 use Rattle.tree_model.specs.declared.node.Content.TheVariants as tree
-use Rattle.tree_model.specs.declared.reply.Reply.TheVariants as reply
 use Rattle.op_log.specs.Log.{HoldsRecords, blocks_of as log_blocks_of}
-use Rattle.space_account.specs.Charge.{charge, need}
+use Rattle.volume_model.specs.Accepted.{Accepts}
 use Rattle.volume_model.specs.Machine.{Stored}
 use Rattle.volume_model.specs.Places.{Spot}
 use Rattle.volume_model.specs.Space.{free_blocks}
@@ -63,12 +60,6 @@ pub record Shows (s : Seen) (stored : Stored) : Type 0 where
   pub places : stored.places ≡ map spot_of s.contents
 
 -- ---- the records
-
--- The tree does each command in its turn, and the charges before it, its charge and its reserve are together no more than is free.
-abbrev pub Accepts : ℕ → Tree → ℕ → List Command → Type 0
-Accepts free tree charged [] = Unit {0}
-Accepts free tree charged (command ∷ commands) =
-    ((step tree command).0 ≡ reply.Done) × (charged + need command ≤ free) × Accepts free (step tree command).1 (charged + charge command) commands
 
 -- The log has as many records as the root says, they fill its used blocks, and they are accepted.
 pub record Logs (image : List Block) (s : Stored) : Type 0 where

@@ -1,4 +1,3 @@
-mod BitLaws
 mod BlockLaws
 mod CountingLaws
 mod DamageLaws
@@ -7,3 +6,4 @@ pub mod SpellLaws
 mod PassingLaws
 mod RenewalLaws
 mod TableLaws
+mod TakenLaws

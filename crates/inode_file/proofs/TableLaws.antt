@@ -1,6 +1,6 @@
 -- Tables of inodes.
 use Rattle.std.proofs.Common.{◌≡◌, ◌≤◌, ◌⊎◌, ◌+◌, ◌-◌, ◌*◌, ◌/◌, ◌==◌, true, false, drop, refl, ap₂, ◌<◌, ℕ, IsTrue, Bool, List, [], ◌∷◌, ◌++◌, length, take, append_assoc, ap, sym, ◌∙◌, subst, arith, ⊎_elim}
-use Rattle.std.specs.Prelude.{slice_index, slice_set, ◌&&◌, not, nat_le, bytes_eq}
+use Rattle.std.specs.Prelude.{slice_index, slice_set, ◌&&◌, not, bytes_eq}
 use Rattle.std.proofs.lemmas.Bool.{cases_eq}
 use Rattle.std.proofs.lemmas.Bool.Decides.{nat_tests}
 use Rattle.inode_file.proofs.BlockLaws.{are_same-Decides}
@@ -10,14 +10,13 @@ use Rattle.block_format.specs.Inode.{inode_shape}
 use Rattle.block_format.specs.declared.inode.Inode.{Inode}
 use Rattle.block_format.specs.declared.inode.Inode.TheVariants.{Unused}
 use Rattle.block_tree.specs.Tree.{Blocks, index_at}
-use Rattle.inode_file.specs.Inodes.{InodeTable, inode_of, block_of, is_used, IsTable, LeadsTo, Stands}
+use Rattle.inode_file.specs.Inodes.{InodeTable, inode_of, block_of, IsTable, LeadsTo, Stands}
 use Rattle.block_tree.specs.Notes.{page_blocks}
 use Rattle.inode_file.specs.Noted.{Noted}
 use Rattle.block_tree.proofs.NoteLaws.{refs-append}
 use Rattle.inode_file.specs.Rewriting.{has_used, is_current, is_fresh, is_written, only_if, passing_from, written_blocks}
 use Rattle.inode_file.specs.Renewal.{AreRenewed, IsIndexRenewed, IsPlanned, all_written}
 use Rattle.inode_file.proofs.CountingLaws.{blocks_counted}
-use Rattle.inode_file.specs.Bits.{has_bit, HasVacant, SetsBit}
 
 -- Blocks that lead from one table to the next.
 pub stands_after : (t : InodeTable) (pointers : List ℕ) (index : ℕ) (after : Blocks) → length t.inodes ≡ 65536 → (index_at after t.index ≡ t.pointers → index_at after index ≡ pointers)
@@ -48,12 +47,6 @@ table_set t n inode lt shape is = record {
   pointers = is.pointers;
   index = is.index;
   shape = λ m. each_set (λ i x. IsTrue (inode_shape x)) t.inodes n inode lt shape m (λ ne. is.shape m);
-}
-
-pub vacant_set : (words new : List ℕ) (inodes : List Inode) (n : ℕ) (inode : Inode) (on : Bool) → n < length inodes → on ≡ (nat_le 2 n && not (is_used inode)) → HasVacant words inodes
-    → SetsBit words n on new → HasVacant new (slice_set inodes n inode)
-vacant_set words new inodes n inode on lt is before sets = record {
-  each = λ m below. each_set (λ i x. has_bit new i ≡ (nat_le 2 i && not (is_used x))) inodes n inode lt (sets.here ∙ is) m (λ ne. sets.others m ne ∙ before.each m below);
 }
 
 -- a number of another block leaves a block as it is

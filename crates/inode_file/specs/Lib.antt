@@ -1,4 +1,3 @@
-pub mod Bits
 pub mod Counting
 pub mod Inodes
 pub mod Laws
@@ -6,3 +5,4 @@ pub mod Loading
 pub mod Noted
 pub mod Renewal
 pub mod Rewriting
+pub mod Taken

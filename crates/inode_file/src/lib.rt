@@ -1,14 +1,13 @@
 //! The inodes of a volume in memory: by number, with the least unused number, and the inode blocks that are written afresh where they change.
 #![tactic(auto)]
 
-mod bits;
 mod inode_block;
 mod laws;
 mod loading;
 mod notes;
 mod renewal;
 mod table;
-mod vacant;
+mod taken;
 
 pub use laws::{not_damaged, number_spelled, one_table, table_stays, tree_of_table};
 pub use table::InodeFile;

@@ -15,14 +15,14 @@ ghost use Rattle.inode_file.specs.Rewriting.{has_nodes, is_unchanged, written_bl
 ghost use Rattle.inode_file.specs.Counting.{used_positions};
 ghost use Rattle.inode_file.specs.Renewal.{IsPlanned, all_written};
 
-use crate::bits::NumberSet;
 use crate::loading::{read_inodes, read_pointers};
 use crate::notes::Notes;
 use crate::renewal::{copy_inodes, count_fresh, renew_blocks, renew_index};
-use crate::vacant::{is_vacant, vacant_numbers};
+use crate::taken::{is_taken, taken_numbers};
 use block_format::{Index, Inode};
 use block_tree::{Rewritten, TreeFault};
 use disk_model::Disk;
+use number_set::NumberSet;
 use run_allocator::FreeMap;
 use std::alloc::{AllocError, Global};
 use std::marker::Model;
@@ -36,7 +36,8 @@ pub struct InodeFile {
     stored: Vec<Inode>,
     pointers: Index,
     index: BlockNo,
-    vacant: NumberSet,
+    /// The numbers that no new node can have.
+    taken: NumberSet,
 }
 
 /// Where the inode blocks and the inode index are to be.
@@ -48,13 +49,13 @@ struct Plan {
 
 impl Model for InodeFile {
     ghost use Rattle.inode_file.specs.Inodes.{InodeTable, IsTable};
-    ghost use Rattle.inode_file.specs.Bits.{HasVacant};
+    ghost use Rattle.inode_file.specs.Taken.{HasTaken};
 
     ghost Value = { InodeTable };
 
     ghost view = { λ f. record { inodes = f.inodes.items; stored = f.stored.items; pointers = f.pointers.ptrs; index = f.index } };
 
-    ghost invariant = { λ f. IsTable (record { inodes = f.inodes.items; stored = f.stored.items; pointers = f.pointers.ptrs; index = f.index }) × HasVacant f.vacant f.inodes.items };
+    ghost invariant = { λ f. IsTable (record { inodes = f.inodes.items; stored = f.stored.items; pointers = f.pointers.ptrs; index = f.index }) × HasTaken f.taken f.inodes.items };
 }
 
 impl InodeFile {
@@ -98,14 +99,14 @@ impl InodeFile {
         ensures { IfOk result (λ t. t ≡ record { inodes = inodes.items; stored = inodes.items; pointers = pointers.ptrs; index = index }) }
     {
         let stored = Vec::from_slice(alloc, &inodes)?;
-        let vacant = vacant_numbers(alloc, &inodes)?;
+        let taken = taken_numbers(alloc, &inodes)?;
         Ok(InodeFile {
             alloc,
             inodes,
             stored,
             pointers,
             index,
-            vacant,
+            taken,
         })
     }
 
@@ -131,7 +132,7 @@ impl InodeFile {
         ensures whole { IsTable self.new }
     {
         self.inodes[n as usize] = inode;
-        self.vacant.set(n, is_vacant(n, &inode));
+        self.taken.set(n, is_taken(n, &inode));
     }
 
     /// The least number from 2 on that is unused. None exactly where each is used. It takes as long however many nodes there are.
@@ -141,7 +142,7 @@ impl InodeFile {
         ensures least { IfSome result (λ n. (m : ℕ) → 2 ≤ m → m < n → is_used (inode_of self.now.inodes m) ≡ true) }
         ensures none { IfNone result ((m : ℕ) → 2 ≤ m → m ≤ 65535 → is_used (inode_of self.now.inodes m) ≡ true) }
     {
-        self.vacant.least()
+        self.taken.least_absent()
     }
 
     /// How many inode blocks a rewriting would write afresh.

@@ -28,7 +28,7 @@ names_length [] = refl
 names_length (Unused ∷ slots) = names_length slots
 names_length (Entry number name ∷ slots) = ap suc (names_length slots)
 
-name_sym : (a b : List ℕ) → name_eq a b ≡ name_eq b a
+pub name_sym : (a b : List ℕ) → name_eq a b ≡ name_eq b a
 name_sym a b = same_test _ _
     (λ e. subst (λ (x : List ℕ). name_eq x a ≡ true) (same_name a b e) (nat_list_eq_equiv.refl a))
     (λ e. subst (λ (x : List ℕ). name_eq x b ≡ true) (same_name b a e) (nat_list_eq_equiv.refl b))
@@ -60,7 +60,7 @@ none_like x (y ∷ ys) e =
       | false ↦ λ other none. (other, none_like x ys none)
     ] refl e
 
-slots_distinct : (slots : List Slot) → HasNamesOnce slots → IsDistinct name_eq (names_in slots)
+pub slots_distinct : (slots : List Slot) → HasNamesOnce slots → IsDistinct name_eq (names_in slots)
 unfolding IsDistinct
 slots_distinct [] once = tt
 slots_distinct (Unused ∷ slots) once = slots_distinct slots (rest_once Unused slots once)
@@ -74,7 +74,7 @@ slots_distinct (Entry number name ∷ slots) once = (
 
 -- ---- names of entries
 
-abbrev names_of : Tree → Path → List (List ℕ)
+abbrev pub names_of : Tree → Path → List (List ℕ)
 names_of es q = map (λ (e : entries.Entry). e.name) (entries_of es q)
 
 entries_length : (xs : List entries.Entry) → length (map (λ (e : entries.Entry). e.name) xs) ≡ length xs
@@ -97,7 +97,7 @@ tied_name q x name = same_test _ _
 untied : (q p : Path) (name : List ℕ) → ((r : Path) → strip q p ≡ Some r → r ≡ name ∷ [] → ⊥) → tie (q ++ name ∷ []) p ≡ false
 untied q p name never = test_fails _ (λ t. never (name ∷ []) (ap (strip q) (sym (tie_is _ _ t)) ∙ strip_back q (name ∷ [])) refl)
 
-entry_member : (es : Tree) (q : Path) (name : List ℕ) → is_member name_eq (names_of es q) name ≡ is_some (node_at es (q ++ name ∷ []))
+pub entry_member : (es : Tree) (q : Path) (name : List ℕ) → is_member name_eq (names_of es q) name ≡ is_some (node_at es (q ++ name ∷ []))
 entry_member [] q name = refl
 entry_member (e ∷ es) q name =
     elim (strip q e.0) as (λ o. strip q e.0 ≡ o → is_member name_eq (names_with (entry_below o e.1) (entries_of es q)) name ≡ is_some (cond (tie (q ++ name ∷ []) e.0) (Some e.1) (node_at es (q ++ name ∷ [])))) [

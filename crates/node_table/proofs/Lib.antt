@@ -20,3 +20,4 @@ mod ReadyLaws
 mod AcceptedLaws
 mod NewLaws
 mod ListLaws
+mod OrderLaws

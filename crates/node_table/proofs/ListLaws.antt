@@ -20,7 +20,7 @@ use Rattle.node_table.proofs.ReadyLaws.{directory_held}
 use Rattle.node_table.proofs.RefusalLaws.{AreDirectories, count_same}
 use Rattle.node_table.proofs.WalkLaws.{look_is}
 
-same_kinds : (c : Content) → kind_in (info_of c) ≡ kind_of c
+pub same_kinds : (c : Content) → kind_in (info_of c) ≡ kind_of c
 same_kinds (contents.File bytes) = refl
 same_kinds (contents.Directory width) = refl
 

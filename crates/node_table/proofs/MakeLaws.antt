@@ -2,7 +2,7 @@
 use Rattle.std.proofs.Common.{◌≡◌, ◌≢◌, ℕ, Bool, true, false, List, [], ◌∷◌, ◌++◌, length, Some, None, refl, sym, ap, subst, ◌∙◌, inl, inr, ⊎_elim, cond}
 use Rattle.std.specs.Prelude.{Option, Ok, is_some}
 use Rattle.std.specs.Option.{option_map}
-use Rattle.std.proofs.lemmas.Bool.{cases_eq}
+use Rattle.std.proofs.lemmas.Bool.{cases_eq, false≢true}
 use Rattle.block_format.specs.declared.slot.Slot.{Slot}
 use Rattle.block_format.specs.declared.slot.Slot.TheVariants.{Entry}
 use Rattle.dir_slots.specs.Slots.{number_in, first_unused, with_slot}
@@ -54,12 +54,12 @@ pub held_kind : (o : Option HeldNode) (b : Bool) → kind o ≡ Some b → is_so
 held_kind None b e = cc
 held_kind (Some entry) b e = refl
 
+abbrev kind_in : Option (ℕ × Bool) → Bool
+kind_in None = false
+kind_in (Some shape) = shape.1
+
 pub file_clash : (x : Option (ℕ × Bool)) (n m : ℕ) → x ≡ Some (n, false) → x ≡ Some (m, true) → ⊥
-file_clash x n m e f =
-    let both : Some (n, false) ≡ Some (m, true) = sym e ∙ f in
-    let pairs : (n, false) ≡ (m, true) = cc in
-    let kinds : false ≡ true = ap (λ (x : ℕ × Bool). x.1) pairs in
-    cc
+file_clash x n m e f = false≢true (sym (ap kind_in e) ∙ ap kind_in f)
 
 module _ (old new : Nodes) (tree : Tree) (h : IsTree tree) (holds : HoldsNodes old tree) (path : Path) (content : Content) (fresh : HeldNode) (command : Command) (p : MakePieces tree path content)
     (e : (step tree command).1 ≡ made tree path content p.number) (directories : AreDirectories new) (fresh_info : info fresh ≡ info_of content) (fresh_slots : slots_of (Some fresh) ≡ [])

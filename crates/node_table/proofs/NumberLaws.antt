@@ -33,7 +33,7 @@ head_apart e es h =
     let rest : cond (is_some (node_at es e.0)) 1 0 + length left ≡ length es = length_without path_cmp path_total e.0 es (true_T _ (ordered_rest e es h)) in
     elim (node_at es e.0) as (λ o. cond (is_some o) 1 0 + length left ≡ length es → o ≡ None) [ None ↦ λ n. refl | Some x ↦ λ n. absurd (omega arith) ] rest
 
-in_whole : (e : Path × Node) (es : Tree) → IsOrdered (e ∷ es) → (p : Path) (node : Node) → node_at es p ≡ Some node → node_at (e ∷ es) p ≡ Some node
+pub in_whole : (e : Path × Node) (es : Tree) → IsOrdered (e ∷ es) → (p : Path) (node : Node) → node_at es p ≡ Some node → node_at (e ∷ es) p ≡ Some node
 in_whole e es h p node stood =
     let apart : tie p e.0 ≡ false = test_fails _ (λ t. let none : node_at es p ≡ None = ap (λ x. node_at es x) (tie_is _ _ t) ∙ head_apart e es h in cc) in
     ap (λ b. cond b (Some e.1) (node_at es p)) apart ∙ stood

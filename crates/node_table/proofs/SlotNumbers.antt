@@ -66,7 +66,7 @@ number_put (Entry n other ∷ slots) number name none x =
 -- ---- an entry is taken away
 
 -- no later slot has the name of the first
-none_later : (number : ℕ) (name : List ℕ) (slots : List Slot) → HasNamesOnce (Entry number name ∷ slots) → number_in slots name ≡ None
+pub none_later : (number : ℕ) (name : List ℕ) (slots : List Slot) → HasNamesOnce (Entry number name ∷ slots) → number_in slots name ≡ None
 none_later number name slots once = none_of (number_in slots name) (λ x e.
     let some : is_member name_eq (names_in slots) name ≡ true = slot_member slots name ∙ ap is_some e in
     let m = member_at slots name some in

@@ -84,18 +84,22 @@ pub record Renames (from to : Path) (number parent slot into into_slot : ℕ) (o
 
 -- ---- by what the change says
 
+-- a new node
 abbrev pub IsMade : Path → HeldNode → Change → Nodes → Nodes → Type 0
 IsMade path fresh (Made parent slot number) old new = Makes path fresh parent slot number old new
 IsMade path fresh change old new = ⊥
 
+-- another size
 abbrev pub IsSized : Path → (ℕ → ℕ) → Change → Nodes → Nodes → Type 0
 IsSized path size_after (Sized number size) old new = Sizes path size_after number size old new
 IsSized path size_after change old new = ⊥
 
+-- a node gone
 abbrev pub IsRemoved : Path → Change → Nodes → Nodes → Type 0
 IsRemoved path (Removed parent slot number) old new = Removes path parent slot number old new
 IsRemoved path change old new = ⊥
 
+-- a node renamed
 abbrev pub IsRenamed : Path → Path → Change → Nodes → Nodes → Type 0
 IsRenamed from to (Renamed number parent slot into into_slot) old new = Renames from to number parent slot into into_slot old new
 IsRenamed from to change old new = ⊥

@@ -23,11 +23,13 @@ new_place nodes path = do
   _ ← refuse_if (is_there nodes path) Exists
   Ok parent.number
 
+-- the directory that a new node at a path comes into
 abbrev pub may_make : Nodes → Path → Result ℕ Refusal
 may_make nodes path = do
   _ ← refuse_if (is_root path) Exists
   new_place nodes path
 
+-- the file at a path
 abbrev pub file_at : Nodes → Path → Result ℕ Refusal
 file_at nodes path = do
   found ← look nodes path
@@ -41,9 +43,11 @@ may_size nodes path size = do
   _ ← refuse_if (nat_lt 4294967296 size) TooBig
   Ok number
 
+-- whether a node is a directory with entries
 abbrev pub is_full : Nodes → FoundNode → Bool
 is_full nodes found = is_directory found.info && not (nat_eq (count (slots_of (held nodes found.number))) 0)
 
+-- the node that may be taken away
 abbrev pub may_remove : Nodes → Path → Result ℕ Refusal
 may_remove nodes path = do
   found ← look nodes path
@@ -61,6 +65,7 @@ may_rename nodes from to = do
   _ ← refuse_if (is_some (strip from to)) Inside
   Ok (record { number = found.number; to = into })
 
+-- the directory that may be listed
 abbrev pub may_list : Nodes → Path → Result ℕ Refusal
 may_list nodes path = do
   found ← look nodes path

@@ -5,6 +5,7 @@ use Rattle.tree_model.specs.declared.refusal.Refusal.{Refusal}
 use Rattle.node_table.specs.declared.held.FoundNode.{FoundNode}
 use Rattle.node_table.specs.Held.{info_of}
 
+-- a node as it is found
 abbrev pub found_of : Node → FoundNode
 found_of node = record { number = node.number; info = info_of node.content }
 

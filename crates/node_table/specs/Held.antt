@@ -17,6 +17,7 @@ use Rattle.node_table.specs.declared.held.NodeInfo.TheVariants as infos
 abbrev pub Nodes : Type 0
 Nodes = List (Option HeldNode)
 
+-- the node of a number
 abbrev pub held : Nodes → ℕ → Option HeldNode
 held nodes number = slice_index_or nodes number None
 
@@ -30,6 +31,7 @@ abbrev pub info_of : Content → NodeInfo
 info_of (contents.File bytes) = infos.File (length bytes)
 info_of (contents.Directory width) = infos.Directory width
 
+-- whether that is a directory
 abbrev pub is_directory : NodeInfo → Bool
 is_directory (infos.File size) = false
 is_directory (infos.Directory width) = true

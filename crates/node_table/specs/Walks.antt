@@ -1,4 +1,4 @@
--- Where the slots of a table lead, in words of private functions alone.
+-- Where the slots of a table lead.
 use Rattle.std.specs.Prelude.{ℕ, List, [], ◌∷◌, Option, Some, None, Result, Ok, Err}
 use Rattle.dir_slots.specs.Slots.{number_in}
 use Rattle.tree_model.specs.Path.{Path}
@@ -16,6 +16,7 @@ number_below None name = Err NotFound
 number_below (Some (File size)) name = Err NotADirectory
 number_below (Some (Directory slots)) name = or_refuse (number_in slots name) NotFound
 
+-- what is known of the node of a number, or that there is none
 abbrev pub found_at : Option HeldNode → ℕ → Result FoundNode Refusal
 found_at None number = Err NotFound
 found_at (Some node) number = Ok (record { number = number; info = info node })
@@ -27,5 +28,6 @@ look_from nodes number (name ∷ names) = do
   next ← number_below (held nodes number) name
   look_from nodes next names
 
+-- from the root on
 abbrev pub look : Nodes → Path → Result FoundNode Refusal
 look nodes path = look_from nodes 1 path

@@ -1,11 +1,11 @@
 //! A directory with how many entries it has.
-ghost use Rattle.std.specs.Prelude.{◌≡◌, ◌<◌, ◌≤◌, Some, None, [], IfOk, OnErr, length};
+ghost use Rattle.std.specs.Prelude.{◌≡◌, ◌<◌, ◌≤◌, Some, None, [], IfOk, OnErr, filter, length};
 ghost use Rattle.block_format.specs.declared.slot.Slot.TheVariants.{Entry};
-ghost use Rattle.dir_slots.specs.Slots.{IsDirectory, number_in, slot_of, first_unused, with_slot, without_slot};
+ghost use Rattle.dir_slots.specs.Slots.{IsDirectory, number_in, slot_of, first_unused, with_slot, without_slot, is_used};
 ghost use Rattle.node_table.specs.Counts.{count};
 ghost use Rattle.node_table.specs.Moves.{MovesName};
 
-use dir_slots::{DirFault, Directory};
+use dir_slots::{DirFault, Directory, SlotList};
 use std::alloc::{AllocError, Global};
 use std::marker::Model;
 use vol_numbers::{InoNo, Name, PageList};
@@ -62,6 +62,13 @@ impl CountedDirectory {
         ensures directory { IsDirectory self.now }
     {
         self.directory.width()
+    }
+
+    /// The slots that hold entries, in their order.
+    pub(crate) fn entries(&self, alloc: Global) -> Result<SlotList, AllocError>
+        ensures { IfOk result (λ entries. entries ≡ filter is_used self.now) }
+    {
+        self.directory.entries(alloc)
     }
 
     /// The number of the node of this name.

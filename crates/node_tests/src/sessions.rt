@@ -6,7 +6,7 @@ use dir_slots::Directory;
 use node_table::{Change, FoundNode, NodeInfo, NodeTable};
 use std::alloc::{AllocError, Global};
 use std::test::Fail;
-use tree_model::{Command, Kind, Refusal, Reply};
+use tree_model::{Command, Entry, Kind, Path, Refusal, Reply};
 use vol_numbers::{Name, PageList};
 
 /// What a command comes to.
@@ -126,6 +126,7 @@ const ROWS: &[(Act, Want)] = &[
     (Act::Mkdir(b"g"), Want::Made(1, 1, 3)),
     (Act::Create(b"h"), Want::Made(1, 2, 4)),
     (Act::Rename(b"a", b"ga"), Want::Renamed(2, 1, 0, 3, 0)),
+    (Act::Rename(b"g", b"z"), Want::Renamed(3, 1, 1, 1, 0)),
 ];
 
 fn came(outcome: Result<Outcome, AllocError>, want: Want) -> bool {
@@ -135,12 +136,19 @@ fn came(outcome: Result<Outcome, AllocError>, want: Want) -> bool {
     }
 }
 
+fn does(table: &mut NodeTable, command: Command, want: Want) -> bool
+    requires { IsSound table.old }
+    ensures { IsSound table.new }
+{
+    came(attempt(table, &command), want)
+}
+
 fn is_done(alloc: Global, table: &mut NodeTable, act: Act, want: Want) -> Result<bool, Fail>
     requires { IsSound table.old }
     ensures { IsSound table.new }
 {
     let command = command(alloc, act)?;
-    Ok(came(attempt(table, &command), want))
+    Ok(does(table, command, want))
 }
 
 /// Whether each row comes out so, on the table that the others left.
@@ -180,9 +188,9 @@ fn find(alloc: Global, table: &NodeTable, path: &[u8]) -> Result<Option<FoundNod
 /// What stands at some paths in the end.
 const LEFT: &[(&[u8], Option<(Kind, u32, u64)>)] = &[
     (b"", Some((Kind::Directory, 1, 2))),
-    (b"g", Some((Kind::Directory, 3, 1))),
-    (b"ga", Some((Kind::Directory, 2, 1))),
-    (b"gae", Some((Kind::File, 5, 0))),
+    (b"z", Some((Kind::Directory, 3, 1))),
+    (b"za", Some((Kind::Directory, 2, 1))),
+    (b"zae", Some((Kind::File, 5, 0))),
     (b"h", Some((Kind::File, 4, 0))),
     (b"a", None),
     (b"haa", None),
@@ -206,9 +214,37 @@ fn is_wide(alloc: Global, table: &NodeTable) -> Result<bool, Fail> {
     Ok(find(alloc, table, b"")? == Some(want))
 }
 
+/// The entries of the root: by their names, and not by their slots, which are the third and the first.
+const ENTRIES: &[(Kind, u32, &[u8])] = &[(Kind::File, 4, b"h"), (Kind::Directory, 3, b"z")];
+
+fn are_entries(entries: &[Entry]) -> bool {
+    if entries.len() != ENTRIES.len() {
+        return false;
+    }
+    for i in 0..entries.len() {
+        let (kind, number, name) = ENTRIES[i];
+        let entry = &entries[i];
+        if entry.kind != kind || entry.number != number || entry.name.as_bytes() != name {
+            return false;
+        }
+    }
+    true
+}
+
+fn lists_so(alloc: Global, table: &NodeTable) -> bool {
+    match table.entries(alloc, &Path::root(alloc)) {
+        Ok(entries) => are_entries(entries.as_slice()),
+        Err(_) => false,
+    }
+}
+
+fn all_is_left(alloc: Global, table: &NodeTable) -> Result<bool, Fail> {
+    Ok(is_left(alloc, table)? && is_wide(alloc, table)? && lists_so(alloc, table))
+}
+
 fn session(alloc: Global) -> Result<bool, Fail> {
     let mut table = NodeTable::new(alloc)?;
-    Ok(goes_so(alloc, &mut table)? && is_left(alloc, &table)? && is_wide(alloc, &table)?)
+    Ok(goes_so(alloc, &mut table)? && all_is_left(alloc, &table)?)
 }
 
 fn one_entry(alloc: Global) -> Option<Directory> {

@@ -1,2 +1,3 @@
 mod MemberLaws
 mod SumLaws
+mod WordLaws

@@ -1,7 +1,7 @@
 -- The numbers whose bits are set.
 use Rattle.std.proofs.Common.{◌≡◌, ℕ, zero, suc, ◌*◌, ◌/◌, ◌%◌, ◌^◌, ◌<◌, ◌≤◌, Bool, true, false, cond, List, ◌∷◌, length, refl, sym, ap, ◌∙◌, arith, ⊎_elim, replicate, slice_index}
 use Rattle.std.specs.Prelude.{nat_eq, nat_lt, ◌&&◌, ◌||◌, not, if◌then◌else◌}
-use Rattle.std.specs.Cmp.{nat_cmp_total}
+use Rattle.std.specs.Cmp.{nat_cmp_total, unsigned_tied}
 use Rattle.std.specs.List.{list_any}
 use Rattle.std.specs.Ordering.{nat_cmp, eq_by_cmp}
 use Rattle.std.specs.FinSet as set
@@ -66,9 +66,6 @@ none_set n q = no_bit (replicate n 0) q (no_word n (q / 64))
 pub no_members : (n : ℕ) → members (replicate n 0) ≡ set.empty
 no_members n = set.same_set nat_cmp_total set.nat_cmp-IsAntisymmetric _ _ (λ q. contains_members (replicate n 0) q ∙ none_set n q ∙ sym (set.contains-empty nat_cmp q))
 
-tied : (q n : ℕ) → eq_by_cmp nat_cmp q n ≡ nat_eq q n
-tied q n = grind (arith, nat_tests)
-
 chosen_true : (b c : Bool) → (if b then true else c) ≡ (b || c)
 chosen_true true c = refl
 chosen_true false c = refl
@@ -82,7 +79,7 @@ put_members old new n h = set.same_set nat_cmp_total set.nat_cmp-IsAntisymmetric
     contains_members new q
     ∙ h q
     ∙ chosen_true (nat_eq q n) (has_bit old q)
-    ∙ (λ i. sym (tied q n) i || sym (contains_members old q) i)
+    ∙ (λ i. sym (unsigned_tied q n) i || sym (contains_members old q) i)
     ∙ sym (set.contains-insert nat_cmp_total (members old) n q))
 
 pub taken_members : (old new : List ℕ) (n : ℕ) → ((k : ℕ) → has_bit new k ≡ (if nat_eq k n then false else has_bit old k)) → members new ≡ set.remove (members old) n
@@ -90,7 +87,7 @@ taken_members old new n h = set.same_set nat_cmp_total set.nat_cmp-IsAntisymmetr
     contains_members new q
     ∙ h q
     ∙ chosen_false (nat_eq q n) (has_bit old q)
-    ∙ (λ i. not (sym (tied q n) i) && sym (contains_members old q) i)
+    ∙ (λ i. not (sym (unsigned_tied q n) i) && sym (contains_members old q) i)
     ∙ sym (set.contains-remove nat_cmp_total (members old) n q))
 
 pub written_members : (old new : List ℕ) (n : ℕ) (present : Bool) (was : set.FinSet nat_cmp) → was ≡ members old → ((k : ℕ) → has_bit new k ≡ (if nat_eq k n then present else has_bit old k))

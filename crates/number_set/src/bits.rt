@@ -17,6 +17,7 @@ pub(crate) fn has_bit(words: &[u64], place: usize) -> bool
 }
 
 /// The word with this bit.
+#[tactic(auto, using(crate::proofs::WordLaws::word_bits))]
 fn with_bit(word: u64, place: u32, present: bool) -> u64
     requires { place < 64 }
     ensures same { bit_at result place ≡ (if present then 1 else 0) }
@@ -41,15 +42,12 @@ pub(crate) fn write_bit(words: &mut Vec<u64>, place: usize, present: bool)
 }
 
 /// How many bits from the lowest on are set.
+#[tactic(auto, using(crate::proofs::WordLaws::word_bits))]
 pub(crate) fn ones(word: u64) -> usize
     ensures within { result ≤ 64 }
     ensures below { (i : ℕ) → i < result → bit_at word i ≡ 1 }
     ensures next { result < 64 → bit_at word result ≡ 0 }
     ensures full { word ≢ full_word → result < 64 }
 {
-    if word == u64::MAX {
-        BITS
-    } else {
-        word.trailing_ones() as usize
-    }
+    word.trailing_ones() as usize
 }

@@ -60,12 +60,26 @@ impl NumberSet {
         has_bit(&self.words, number as usize)
     }
 
+    /// Puts a number into the set or takes it out. Three words change at most.
+    pub fn set(&mut self, number: u32, present: bool)
+        requires { number ≤ 65535 }
+        ensures { self.new ≡ (if present then set.insert self.old number else set.remove self.old number) }
+    {
+        let number = number as usize;
+        write_bit(&mut self.words, number, present);
+        // The bits above say what the words below have by now.
+        let word = number / BITS;
+        write_bit(&mut self.full, word, self.words[word] == u64::MAX);
+        let group = word / BITS;
+        write_bit(&mut self.top, group, self.full[group] == u64::MAX);
+    }
+
     /// Puts a number into the set.
     pub fn put(&mut self, number: u32)
         requires { number ≤ 65535 }
         ensures { self.new ≡ set.insert self.old number }
     {
-        self.write(number as usize, true);
+        self.set(number, true);
     }
 
     /// Takes a number out of the set.
@@ -73,7 +87,7 @@ impl NumberSet {
         requires { number ≤ 65535 }
         ensures { self.new ≡ set.remove self.old number }
     {
-        self.write(number as usize, false);
+        self.set(number, false);
     }
 
     /// The least number up to 65,535 that isn't in the set. Three words are looked at.
@@ -87,20 +101,6 @@ impl NumberSet {
         let word = BITS * group + ones(self.full[group]);
         let number = BITS * word + ones(self.words[word]);
         Some(number as u32)
-    }
-}
-
-impl NumberSet {
-    /// Sets the bit of a number, or clears it, and then the bits above it.
-    fn write(&mut self, number: usize, present: bool)
-        requires { number ≤ 65535 }
-        ensures { self.new ≡ (if present then set.insert self.old number else set.remove self.old number) }
-    {
-        write_bit(&mut self.words, number, present);
-        let word = number / BITS;
-        write_bit(&mut self.full, word, self.words[word] == u64::MAX);
-        let group = word / BITS;
-        write_bit(&mut self.top, group, self.full[group] == u64::MAX);
     }
 }
 

@@ -65,3 +65,19 @@ among_times n (m ∷ ms) among = by (nat_eq m n) among (among_times n ms)
     by : (t : Bool) → (t || is_among ms n) ≡ true → (is_among ms n ≡ true → 1 ≤ times n ms) → 1 ≤ cond t 1 0 + times n ms
     by true e more = omega arith
     by false e more = omega (arith, more e)
+
+-- one that isn't among them is there no time
+pub times_none : (n : ℕ) (ns : List ℕ) → is_among ns n ≡ false → times n ns ≡ 0
+times_none n [] e = refl
+times_none n (m ∷ ms) e = by (nat_eq m n) e (times_none n ms)
+  where
+    by : (t : Bool) → (t || is_among ms n) ≡ false → (is_among ms n ≡ false → times n ms ≡ 0) → cond t 1 0 + times n ms ≡ 0
+    by true e more = cc
+    by false e more = omega (arith, more e)
+
+pub times_among : (n : ℕ) (ns : List ℕ) → 1 ≤ times n ns → is_among ns n ≡ true
+times_among n ns some = by (is_among ns n) refl
+  where
+    by : (t : Bool) → is_among ns n ≡ t → t ≡ true
+    by true e = refl
+    by false e = absurd (omega (arith, some, times_none n ns e))

@@ -26,7 +26,7 @@ pub fn total_same()
     ensures { TotalSame }
 {}
 
-/// A number that is among some is there at least once.
+/// A number is among some exactly where it is there at least once.
 pub fn among_times()
     ensures { AmongTimes }
 {}

@@ -8,7 +8,7 @@ abbrev pub places_under : ℕ → ℕ → ℕ
 places_under offset zero = 0
 places_under offset len = (offset + len - 1) / 4096 + 1 - offset / 4096
 
--- how many blocks a command may cost; what changes nothing costs nothing
+-- How many blocks a command may cost. It is used for changes alone; by the formula a write of no bytes, which changes nothing, is charged 8.
 abbrev pub charge : Command → ℕ
 charge (Create path) = 12
 charge (Mkdir path) = 12

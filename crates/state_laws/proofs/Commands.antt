@@ -1,24 +1,35 @@
 -- A command that is done leaves a state coherent, and so a mounted volume is.
-use Rattle.std.proofs.Common.{◌≡◌, ℕ, Bool, true, false, not, cond, List, [], ◌∷◌, ◌++◌, filter, Some, refl, sym, ap, subst, ◌∙◌}
-use Rattle.std.specs.Prelude.{◌&&◌, ◌||◌, option_map}
+use Rattle.std.proofs.Common.{◌≡◌, ℕ, ◌+◌, ◌≤◌, Bool, true, false, not, cond, List, [], ◌∷◌, ◌++◌, filter, Some, refl, sym, ap, subst, ◌∙◌, arith}
+use Rattle.std.specs.Prelude.{◌&&◌, ◌||◌, All, option_map}
 use Rattle.std.specs.declared.cmp.Ordering.{Ordering}
 use Rattle.std.specs.declared.cmp.Ordering.TheVariants.{Less, Equal, Greater}
-use Rattle.std.proofs.lemmas.List.Elements.{All-nil}
+use Rattle.std.proofs.lemmas.List.Elements.{All-nil, All-head, All-tail, All-push}
 use Rattle.tree_model.specs.declared.command.Command.{Command}
-use Rattle.tree_model.specs.Step.{step}
+use Rattle.tree_model.specs.declared.reply.Reply.TheVariants as reply
+use Rattle.tree_model.specs.Shape.{IsTree}
+use Rattle.tree_model.specs.Step.{step, is_change, refusal_of}
 use Rattle.tree_model.specs.Touched.{touched}
 use Rattle.tree_model.specs.Tree.{Tree}
+use Rattle.tree_model.proofs.RefusalLaws.{changes_are_done}
 use Rattle.tree_model.proofs.StepWidths.{keeps_tree}
+use Rattle.op_log.specs.Record.{HasRecord, record_blocks}
+use Rattle.space_account.specs.Charge.{charge, need, pending}
+use Rattle.volume_model.specs.Accepted.{Accepts, HasRoom}
+use Rattle.volume_model.specs.CacheLaws.{IsCacheList, HasFewKin}
 use Rattle.volume_model.specs.Done.{is_cut, cut_by, done, all_done, mounted}
-use Rattle.volume_model.specs.Machine.{Machine, Rules, Stored, stored, at_point, block_at, held}
+use Rattle.volume_model.specs.LogUse.{log_use}
+use Rattle.volume_model.specs.Machine.{Machine, Rules, Stored, stored, at_point, block_at, held, free_of}
 use Rattle.volume_model.specs.Places.{Spot, Places, spot_cmp, spot_eq, has_spot, spots_of, by_order, with_spot, with_spots}
+use Rattle.volume_model.specs.Space.{free_blocks}
+use Rattle.volume_model.specs.Whole.{IsWhole}
 use Rattle.volume_model.proofs.CacheLists.{stays_a_cache_list, eight_at_most}
 use Rattle.volume_model.proofs.Order.{spot_tie}
 use Rattle.volume_model.proofs.PointSpace.{left_has}
-use Rattle.volume_model.proofs.WholeLaws.{always_whole, done_whole}
-use Rattle.state_laws.specs.Accepted.{IsAccepted, AreAccepted}
+use Rattle.volume_model.proofs.RoomLaws.{not_refused}
+use Rattle.volume_model.proofs.WholeLaws.{always_whole, done_whole, mounted_stores}
+use Rattle.state_laws.specs.Accepted.{IsAccepted}
 use Rattle.state_laws.specs.Files.{HasPlace, PlacesFollow, zero_block}
-use Rattle.state_laws.specs.States.{IsMountable, is_held, IsInFiles, KeptIsUnchanged, HolesAreZeros, IsWhatItStores, IsCoherent}
+use Rattle.state_laws.specs.States.{IsMountable, is_held, IsInFiles, KeptIsUnchanged, HolesAreZeros, HasTrueFingerprints, IsWhatItStores, IsCoherent}
 use Rattle.state_laws.proofs.Changes.{changes_follow}
 
 -- ---- which places are kept and dirty
@@ -130,9 +141,15 @@ done_tree : (commands : List Command) (m : Machine) → (all_done m commands).tr
 done_tree [] m = refl
 done_tree (command ∷ commands) m = done_tree commands (done m command)
 
-accepted_more : (commands : List Command) (tree : Tree) (command : Command) → AreAccepted tree commands → IsAccepted (tree_after tree commands) command → AreAccepted tree (commands ++ command ∷ [])
-accepted_more [] tree command all one = (one, tt)
-accepted_more (first ∷ commands) tree command all one = (all.0, accepted_more commands (step tree first).1 command all.1 one)
+accepts_more : (free : ℕ) (tree : Tree) (charged : ℕ) (commands : List Command) (command : Command) → Accepts free tree charged commands → (step (tree_after tree commands) command).0 ≡ reply.Done
+    → charged + pending commands + need command ≤ free → Accepts free tree charged (commands ++ command ∷ [])
+accepts_more free tree charged [] command all ok le = (ok, omega (arith, le), tt)
+accepts_more free tree charged (first ∷ commands) command all ok le =
+    (all.0, all.1, accepts_more free (step tree first).1 (charged + charge first) commands command all.2 ok (omega (arith, le)))
+
+log_more : (commands : List Command) (command : Command) → log_use (commands ++ command ∷ []) ≡ log_use commands + record_blocks command
+log_more [] command = omega arith
+log_more (first ∷ commands) command = omega (arith, log_more commands command)
 
 done_last : (commands : List Command) (m : Machine) (command : Command) → all_done m (commands ++ command ∷ []) ≡ done (all_done m commands) command
 done_last [] m command = refl
@@ -141,26 +158,73 @@ done_last (first ∷ commands) m command = done_last commands (done m first) com
 tree_of : (m : Machine) → IsWhatItStores m → tree_after m.stored_tree m.records ≡ m.tree
 tree_of m is = sym (done_tree m.records (at_point m.layout m.stored_tree m.stored_places m.point [])) ∙ ap (λ (x : Machine). x.tree) is
 
-mountable_now : (m : Machine) (command : Command) → IsMountable (stored m) → IsWhatItStores m → IsAccepted m.tree command → IsMountable (stored (done m command))
-mountable_now m command mountable is one = record {
+last_has : (commands : List Command) (command : Command) → All HasRecord (commands ++ command ∷ []) → HasRecord command
+last_has [] command all = All-head HasRecord command [] all
+last_has (first ∷ commands) command all = last_has commands command (All-tail HasRecord first (commands ++ command ∷ []) all)
+
+mountable_now : (m : Machine) (command : Command) → IsMountable (stored m) → IsWhatItStores m → IsAccepted m.tree command → HasRoom m command → IsMountable (stored (done m command))
+mountable_now m command mountable is one room = record {
   tree = mountable.tree;
   in_order = mountable.in_order;
   in_files = mountable.in_files;
   holes = mountable.holes;
   same = mountable.same;
-  accepted = accepted_more m.records m.stored_tree command mountable.accepted (subst (λ (t : Tree). IsAccepted t command) (sym (tree_of m is)) one);
+  changes = All-push (λ (c : Command). is_change c ≡ true) m.records command mountable.changes one.change;
+  accepted =
+      accepts_more (free_of m) m.stored_tree 0 m.records command mountable.accepted
+      (ap (λ (t : Tree). (step t command).0) (tree_of m is) ∙ changes_are_done m.tree command one.change one.accepted) (omega (arith, room.space));
+  fits = λ valid recorded.
+      omega (arith, log_more m.records command, room.log valid (last_has m.records command recorded));
 }
 
 stores_now : (m : Machine) (command : Command) → IsWhatItStores m → IsWhatItStores (done m command)
 stores_now m command is =
     ap (λ (x : Machine). record x { cache = m.cache }) (done_last m.records (at_point m.layout m.stored_tree m.stored_places m.point []) command) ∙ ap (λ (x : Machine). done x command) is
 
-pub done_coherent : (r : Rules) (m : Machine) (command : Command) → IsCoherent r m → IsAccepted m.tree command → IsCoherent r (done m command)
-done_coherent r m command is one =
+-- All that is coherent in a state but what it stores.
+pub record IsRight (r : Rules) (m : Machine) : Type 0 where
+  pub whole : IsWhole m
+  pub tree : IsTree m.tree
+  pub in_files : IsInFiles m
+  pub unchanged : KeptIsUnchanged m
+  pub holes : HolesAreZeros m
+  pub cache : IsCacheList r.capacity m.cache
+  pub few_kin : HasFewKin m.cache
+  pub fingerprints : HasTrueFingerprints r m
+  pub what_it_stores : IsWhatItStores m
+
+right_of : (r : Rules) (m : Machine) → IsCoherent r m → IsRight r m
+right_of r m is = record {
+  whole = is.whole;
+  tree = is.tree;
+  in_files = is.in_files;
+  unchanged = is.unchanged;
+  holes = is.holes;
+  cache = is.cache;
+  few_kin = is.few_kin;
+  fingerprints = is.fingerprints;
+  what_it_stores = is.what_it_stores;
+}
+
+coherent_of : (r : Rules) (m : Machine) → IsMountable (stored m) → IsRight r m → IsCoherent r m
+coherent_of r m mountable is = record {
+  whole = is.whole;
+  mountable = mountable;
+  tree = is.tree;
+  in_files = is.in_files;
+  unchanged = is.unchanged;
+  holes = is.holes;
+  cache = is.cache;
+  few_kin = is.few_kin;
+  fingerprints = is.fingerprints;
+  what_it_stores = is.what_it_stores;
+}
+
+done_right : (r : Rules) (m : Machine) (command : Command) → IsRight r m → IsAccepted m.tree command → IsRight r (done m command)
+done_right r m command is one =
     let follow = changes_follow m.tree command is.tree one in
     record {
       whole = done_whole m command is.whole;
-      mountable = mountable_now m command is.mountable is.what_it_stores one;
       tree = keeps_tree m.tree command is.tree;
       in_files = files_now m command follow is.in_files;
       unchanged = unchanged_now m command follow is.unchanged;
@@ -171,16 +235,25 @@ done_coherent r m command is one =
       what_it_stores = stores_now m command is.what_it_stores;
     }
 
+pub done_coherent : (r : Rules) (m : Machine) (command : Command) → IsCoherent r m → IsAccepted m.tree command → HasRoom m command → IsCoherent r (done m command)
+done_coherent r m command is one room =
+    coherent_of r (done m command) (mountable_now m command is.mountable is.what_it_stores one room) (done_right r m command (right_of r m is) one)
+
 -- ---- a mounted volume
 
-all_coherent : (r : Rules) (commands : List Command) (m : Machine) → IsCoherent r m → AreAccepted m.tree commands → IsCoherent r (all_done m commands)
-all_coherent r [] m is all = is
-all_coherent r (command ∷ commands) m is all = all_coherent r commands (done m command) (done_coherent r m command is all.0) all.1
+one_accepted : (tree : Tree) (command : Command) → is_change command ≡ true → (step tree command).0 ≡ reply.Done → IsAccepted tree command
+one_accepted tree command change ok = record { change = change; accepted = not_refused tree command (refusal_of tree command) ok refl }
 
-first_coherent : (r : Rules) (s : Stored) → IsMountable s → IsCoherent r (at_point s.layout s.tree s.places s.point [])
-first_coherent r s is = record {
+all_right : (r : Rules) (free charged : ℕ) (commands : List Command) (m : Machine) → IsRight r m → All (λ (c : Command). is_change c ≡ true) commands → Accepts free m.tree charged commands
+    → IsRight r (all_done m commands)
+all_right r free charged [] m is changes all = is
+all_right r free charged (command ∷ commands) m is changes all =
+    all_right r free (charged + charge command) commands (done m command) (done_right r m command is (one_accepted m.tree command (All-head (λ (c : Command). is_change c ≡ true) command commands changes) all.0))
+    (All-tail (λ (c : Command). is_change c ≡ true) command commands changes) all.2
+
+first_right : (r : Rules) (s : Stored) → IsMountable s → IsRight r (at_point s.layout s.tree s.places s.point [])
+first_right r s is = record {
   whole = always_whole.at_first (record s { records = [] }) is.in_order;
-  mountable = record { tree = is.tree; in_order = is.in_order; in_files = is.in_files; holes = is.holes; same = is.same; accepted = tt };
   tree = is.tree;
   in_files = λ spot e. is.in_files spot (kept_alone (has_spot (spots_of s.places) spot) e);
   unchanged = λ spot e. refl;
@@ -200,4 +273,6 @@ first_coherent r s is = record {
     none_kept false e = refl
 
 pub mounted_coherent : (r : Rules) (s : Stored) → IsMountable s → IsCoherent r (mounted s)
-mounted_coherent r s is = all_coherent r s.records (at_point s.layout s.tree s.places s.point []) (first_coherent r s is) is.accepted
+mounted_coherent r s is =
+    coherent_of r (mounted s) (subst IsMountable (sym (mounted_stores s)) is)
+    (all_right r (free_blocks s.layout s.tree s.places) 0 s.records (at_point s.layout s.tree s.places s.point []) (first_right r s is) is.changes is.accepted)

@@ -1,6 +1,9 @@
 -- What a format leaves can be mounted.
 use Rattle.std.proofs.Common.{◌≡◌, ℕ, Bool, true, false, cond, List, [], refl, ap, ◌∙◌, arith}
 use Rattle.std.specs.Prelude.{nat_eq}
+use Rattle.std.proofs.lemmas.List.Elements.{All-nil}
+use Rattle.tree_model.specs.declared.command.Command.{Command}
+use Rattle.tree_model.specs.Step.{is_change}
 use Rattle.tree_model.specs.Tree.{new_tree}
 use Rattle.tree_model.proofs.RenameLaws.{keeps_trees}
 use Rattle.volume_model.specs.Machine.{bytes_numbered, block_at}
@@ -26,5 +29,7 @@ fresh_is_mountable layout point = record {
   in_files = λ spot e. cc;
   holes = λ spot e. no_block spot;
   same = λ a b block e f. cc;
+  changes = All-nil (λ (c : Command). is_change c ≡ true);
   accepted = tt;
+  fits = λ valid recorded. omega arith;
 }

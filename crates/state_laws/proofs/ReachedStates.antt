@@ -1,9 +1,8 @@
 -- Each legal answer leaves a state coherent, and so every state that is reached is.
-use Rattle.std.proofs.Common.{◌≡◌, ◌<◌, Bool, true, false, cond, Some, None, inl, inr, refl, sym, ap, subst, ◌∙◌}
+use Rattle.std.proofs.Common.{◌≡◌, ◌<◌, Bool, true, false, cond, Some, None, inl, inr, refl, sym, ap, subst, ◌∙◌, arith}
 use Rattle.std.specs.Prelude.{◌&&◌, ◌||◌, Option}
+use Rattle.std.proofs.lemmas.List.Elements.{All-nil}
 use Rattle.tree_model.specs.declared.command.Command.{Command}
-use Rattle.tree_model.specs.declared.command.Command.TheVariants.{Layout, Space, Checkpoint, End}
-use Rattle.tree_model.specs.declared.refusal.Refusal.{Refusal}
 use Rattle.tree_model.specs.declared.refusal.Refusal.TheVariants.{NoSpace}
 use Rattle.tree_model.specs.declared.reply.Reply.{Reply}
 use Rattle.tree_model.specs.declared.reply.Reply.TheVariants as reply
@@ -12,10 +11,10 @@ use Rattle.tree_model.specs.declared.report.Report.{Report}
 use Rattle.tree_model.specs.Shape.{IsTree}
 use Rattle.tree_model.specs.Step.{step, is_change, refusal_of}
 use Rattle.tree_model.specs.Tree.{Tree}
-use Rattle.tree_model.proofs.RefusalLaws.{refusal_tells, changes_are_done}
+use Rattle.tree_model.proofs.RefusalLaws.{changes_are_done}
 use Rattle.space_account.specs.Charge.{need}
 use Rattle.volume_model.specs.Done.{done}
-use Rattle.volume_model.specs.Legal.{IsLegal, Replies, MayReport, changes, is_full, is_due, is_done, is_excuse, is_outside, reply_to, when_answered, next}
+use Rattle.volume_model.specs.Legal.{IsLegal, Replies, MayReport, changes, is_full, is_due, is_done, is_excuse, is_outside, when_answered, next}
 use Rattle.volume_model.specs.Machine.{Machine, Rules, block_at, free_of}
 use Rattle.volume_model.specs.Places.{Spot, has_spot, spots_of}
 use Rattle.volume_model.specs.Point.{IsPoint, after_point, placed_after, fresh_in}
@@ -23,6 +22,7 @@ use Rattle.volume_model.specs.ReportLaws.{IsReport}
 use Rattle.volume_model.specs.Short.{AnswerForNow, answered, point_short, IsLegalForNow, next_for_now, is_short}
 use Rattle.volume_model.specs.Whole.{IsWhole}
 use Rattle.volume_model.proofs.CacheLists.{stays_a_cache_list, eight_at_most}
+use Rattle.volume_model.proofs.RoomLaws.{reply_is, excuse_is, not_refused, kept_reply, done_has_room}
 use Rattle.volume_model.proofs.WholeLaws.{point_whole}
 use Rattle.state_laws.specs.Accepted.{IsAccepted}
 use Rattle.state_laws.specs.Files.{HasPlace, zero_block}
@@ -51,7 +51,9 @@ point_coherent r m report positive coherent point = record {
     in_files = in_files;
     holes = holes;
     same = same_after r m report is coherent.mountable.same coherent.unchanged;
+    changes = All-nil (λ (c : Command). is_change c ≡ true);
     accepted = tt;
+    fits = λ valid recorded. omega arith;
   };
   tree = coherent.tree;
   in_files = λ spot e. in_files spot (first_held (has_spot (spots_of (placed_after r m (fresh_in report))) spot) e);
@@ -77,28 +79,9 @@ point_coherent r m report positive coherent point = record {
 
 -- ---- a change that is answered as done was accepted
 
-reply_is : (m : Machine) (c : Command) → is_change c ≡ true → reply_to m c ≡ cond (changes m c && is_full m c) (reply.Refused (NoSpace (free_of m) (need c))) (step m.tree c).0
-reply_is m Space e = cc
-reply_is m (Layout path) e = cc
-reply_is m c e = refl
-
-excuse_is : (c : Command) (given : Answer) → is_change c ≡ true → is_excuse c given ≡ true → is_outside given.reply ≡ true
-excuse_is Space given e x = cc
-excuse_is End given e x = cc
-excuse_is Checkpoint given e x = cc
-excuse_is c given e x = x
-
 done_is : (given : Reply) → is_done given ≡ true → given ≡ reply.Done
 done_is reply.Done e = refl
 done_is given e = cc
-
-kept_reply : (t : Bool) (refused : Refusal) (given : Reply) → cond t (reply.Refused refused) given ≡ reply.Done → given ≡ reply.Done
-kept_reply true refused given e = cc
-kept_reply false refused given e = e
-
-not_refused : (tree : Tree) (c : Command) (o : Option Refusal) → (step tree c).0 ≡ reply.Done → refusal_of tree c ≡ o → o ≡ None
-not_refused tree c None ok e = refl
-not_refused tree c (Some x) ok e = let refused : (step tree c).0 ≡ reply.Refused x = (refusal_tells tree c x).0 e in cc
 
 pub accepted_is_done : AcceptedIsDone
 accepted_is_done = record {
@@ -115,7 +98,7 @@ accepted r m c given change ok replies = by replies
     by : Replies r m c given → IsAccepted (when_answered r m given.report).tree c
     by (inl two) =
         let told : cond (changes now c && is_full now c) (reply.Refused (NoSpace (free_of now) (need c))) (step now.tree c).0 ≡ reply.Done = sym (reply_is now c change) ∙ sym two.1 ∙ done_is given.reply ok in
-        record { change = change; accepted = not_refused now.tree c (refusal_of now.tree c) (kept_reply (changes now c && is_full now c) (NoSpace (free_of now) (need c)) (step now.tree c).0 told) refl }
+        record { change = change; accepted = not_refused now.tree c (refusal_of now.tree c) (kept_reply (changes now c && is_full now c) (NoSpace (free_of now) (need c)) (step now.tree c).0 told).1 refl }
     by (inr excuse) = let never : false ≡ true = sym (ap is_outside (done_is given.reply ok)) ∙ excuse_is c given change excuse in cc
 
 -- ---- an answer
@@ -135,7 +118,7 @@ next_coherent r m c given positive is legal = by (is_change c && is_done given.r
     now = answered_coherent r m c given.report positive is legal.report
 
     by : (t : Bool) → (is_change c && is_done given.reply) ≡ t → IsCoherent r (cond t (done (when_answered r m given.report) c) (when_answered r m given.report))
-    by true e = let two = both (is_change c) (is_done given.reply) e in done_coherent r (when_answered r m given.report) c now (accepted r m c given two.0 two.1 legal.reply)
+    by true e = let two = both (is_change c) (is_done given.reply) e in done_coherent r (when_answered r m given.report) c now (accepted r m c given two.0 two.1 legal.reply) (done_has_room.legal r m c given two.0 legal (done_is given.reply two.1))
     by false e = now
 
 -- an excuse without a report leaves the state

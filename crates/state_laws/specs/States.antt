@@ -1,31 +1,38 @@
 -- What holds of stored states that can be mounted, and of the states that are reached from these.
 use Rattle.std.specs.Prelude.{◌≡◌, ◌≤◌, ℕ, Bool, true, false, ◌||◌, length, Some, All, option_map}
+use Rattle.vol_numbers.specs.Layout.{IsValid}
 use Rattle.tree_model.specs.declared.node.Content.TheVariants.{Directory}
 use Rattle.tree_model.specs.declared.node.Node.{Node}
 use Rattle.tree_model.specs.declared.report.Answer.{Answer}
 use Rattle.tree_model.specs.declared.command.Command.{Command}
 use Rattle.tree_model.specs.Path.{Path}
 use Rattle.tree_model.specs.Shape.{IsTree}
+use Rattle.tree_model.specs.Step.{is_change}
 use Rattle.tree_model.specs.Tree.{Tree, node_at, entries_of}
+use Rattle.op_log.specs.Record.{HasRecord}
+use Rattle.volume_model.specs.Accepted.{Accepts}
 use Rattle.volume_model.specs.CacheLaws.{IsCacheList, HasFewKin}
 use Rattle.volume_model.specs.Done.{mounted}
 use Rattle.volume_model.specs.Legal.{IsLegal, next}
+use Rattle.volume_model.specs.LogUse.{log_use}
 use Rattle.volume_model.specs.Machine.{Machine, Rules, Stored, stored, block_at, held}
 use Rattle.volume_model.specs.Places.{Spot, InOrder, has_spot, spots_of}
 use Rattle.volume_model.specs.Short.{AnswerForNow, IsLegalForNow, next_for_now}
+use Rattle.volume_model.specs.Space.{free_blocks}
 use Rattle.volume_model.specs.Whole.{IsWhole}
-use Rattle.state_laws.specs.Accepted.{AreAccepted}
 use Rattle.state_laws.specs.Files.{HasPlace, HasSameBytes, zero_block}
 
--- What is stored can be mounted: the tree is one, its places are places of files, all others read as zeros, places with the same block have
--- the same bytes, and the tree accepts the records in turn.
+-- What is stored can be mounted: the tree is one, its places are places of files, all others read as zeros, and places with the same block have
+-- the same bytes. The records are changes, which the tree accepts in turn with their charges, and they fit into the log of a valid layout.
 pub record IsMountable (s : Stored) : Type 0 where
   pub tree : IsTree s.tree
   pub in_order : InOrder s.places
   pub in_files : (spot : Spot) → has_spot (spots_of s.places) spot ≡ true → HasPlace s.tree spot
   pub holes : (spot : Spot) → has_spot (spots_of s.places) spot ≡ false → block_at s.tree spot ≡ zero_block
   pub same : HasSameBytes s.tree s.places
-  pub accepted : AreAccepted s.tree s.records
+  pub changes : All (λ command. is_change command ≡ true) s.records
+  pub accepted : Accepts (free_blocks s.layout s.tree s.places) s.tree 0 s.records
+  pub fits : IsValid s.layout → All HasRecord s.records → log_use s.records ≤ s.layout.log_blocks
 
 -- ---- what holds of a state
 

@@ -23,7 +23,7 @@ places_at number first (suc count) (suc k) d h =
     let next : first + 1 + k ≡ first + suc k = omega arith in
     places_at number (first + 1) count k d (omega arith) ∙ ap (λ x. (number, x)) next
 
-contains_places : (number first count place : ℕ) → first ≤ place → place < first + count → Contains (places number first count) (number, place)
+pub contains_places : (number first count place : ℕ) → first ≤ place → place < first + count → Contains (places number first count) (number, place)
 contains_places number first count place h k =
     let at : first + (place - first) ≡ place = omega arith in
     (place - first, omega (arith, length_places number first count), places_at number first count (place - first) (number, place) (omega arith) ∙ ap (λ x. (number, x)) at)

@@ -2,6 +2,7 @@ pub mod Accepted
 pub mod AttemptLaws
 pub mod ByteLaws
 pub mod EntryCounts
+pub mod EntryLaws
 pub mod Fronts
 pub mod Lookups
 pub mod Numbers

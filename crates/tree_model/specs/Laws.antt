@@ -1,17 +1,20 @@
 -- What holds of the definition of the tree, in words that its rules don't use.
-use Rattle.std.specs.Prelude.{◌≡◌, ◌≢◌, ◌↔◌, ◌≤◌, ◌<◌, ℕ, max, true, false, if◌then◌else◌, List, [], ◌++◌, ◌+◌, ◌/◌, length, Contains, Some, None}
-use Rattle.std.specs.Ordering.{eq_by_cmp}
+use Rattle.std.specs.Prelude.{◌≡◌, ◌≢◌, ◌↔◌, ◌≤◌, ◌<◌, ℕ, max, true, false, if◌then◌else◌, List, [], ◌∷◌, ◌++◌, ◌+◌, ◌/◌, length, Contains, Some, None}
+use Rattle.std.specs.Cmp.Lexicographic.{slice_cmp}
+use Rattle.std.specs.Ordering.{eq_by_cmp, nat_cmp}
+use Rattle.std.specs.declared.cmp.Ordering.TheVariants.{Less}
 use Rattle.tree_model.specs.declared.command.Command.{Command}
 use Rattle.tree_model.specs.declared.command.Command.TheVariants.{Write, Rename}
 use Rattle.tree_model.specs.declared.node.Node.{Node}
 use Rattle.tree_model.specs.declared.node.Content.TheVariants.{File, Directory}
 use Rattle.tree_model.specs.declared.refusal.Refusal.{Refusal}
+use Rattle.tree_model.specs.declared.reply.Entry.{Entry}
 use Rattle.tree_model.specs.declared.reply.Reply.TheVariants.{Done, Refused}
 use Rattle.tree_model.specs.Follow.{Follows, ComesFrom, KeepsUntouched}
 use Rattle.tree_model.specs.Order.{IsOrdered}
 use Rattle.tree_model.specs.Path.{Path, path_cmp, parent_of, strip}
 use Rattle.tree_model.specs.Shape.{IsTree}
-use Rattle.tree_model.specs.Tree.{Tree, new_tree, node_at, with_node, entries_of, is_used, least_unused}
+use Rattle.tree_model.specs.Tree.{Tree, new_tree, node_at, with_node, kind_of, entries_of, is_used, least_unused}
 use Rattle.tree_model.specs.Step.{step, refusal_of, is_change}
 use Rattle.tree_model.specs.Touched.{touched}
 
@@ -80,10 +83,13 @@ TouchesOnly = (tree : Tree) (command : Command) → IsTree tree → (p q : Path)
     → node_at tree p ≡ Some (record { number = number; content = File old }) → node_at (step tree command).1 q ≡ Some (record { number = number; content = File new })
     → KeepsUntouched (touched tree command) number old new
 
--- each place that a write touches has a byte of it
-abbrev pub TouchesWritten : Type 0
-TouchesWritten = (tree : Tree) (path : Path) (offset : ℕ) (bytes : List ℕ) (number place : ℕ) → Contains (touched tree (Write path offset bytes)) (number, place)
-    → (i : ℕ) × (offset ≤ i) × (i < offset + length bytes) × (i / 4096 ≡ place)
+-- A write touches exactly the places in which it has a byte: each place that it touches has one, and where the write isn't refused each of its
+-- bytes is in a place that it touches.
+pub record TouchesWritten : Type 0 where
+  pub has_byte : (tree : Tree) (path : Path) (offset : ℕ) (bytes : List ℕ) (number place : ℕ) → Contains (touched tree (Write path offset bytes)) (number, place)
+      → (i : ℕ) × (offset ≤ i) × (i < offset + length bytes) × (i / 4096 ≡ place)
+  pub each_byte : (tree : Tree) (path : Path) (offset : ℕ) (bytes : List ℕ) (node : Node) (i : ℕ) → refusal_of tree (Write path offset bytes) ≡ None → node_at tree path ≡ Some node
+      → offset ≤ i → i < offset + length bytes → Contains (touched tree (Write path offset bytes)) (node.number, i / 4096)
 
 -- a width never falls, wherever the directory is before and after the command
 abbrev pub WidthsNeverFall : Type 0
@@ -101,3 +107,20 @@ WidthsAreGreatest = (tree : Tree) (command : Command) → IsTree tree → (p q :
 abbrev pub NewDirectoriesAreEmpty : Type 0
 NewDirectoriesAreEmpty = (tree : Tree) (command : Command) → IsTree tree → (path : Path) (number width : ℕ) → is_used tree number ≡ false
     → node_at (step tree command).1 path ≡ Some (record { number = number; content = Directory width }) → (length (entries_of (step tree command).1 path) ≡ 0) × (width ≡ 0)
+
+-- the names rise by their bytes
+abbrev pub NamesRise : List Entry → Type 0
+NamesRise [] = Unit {0}
+NamesRise (e ∷ []) = Unit {0}
+NamesRise (e ∷ next ∷ es) = (slice_cmp nat_cmp e.name next.name ≡ Less) × NamesRise (next ∷ es)
+
+-- the entry of a node by this name
+abbrev pub entry_of : List ℕ → Node → Entry
+entry_of name node = record { kind = kind_of node.content; number = node.number; name = name }
+
+-- The entries of a directory are exactly the nodes one name further, and their names rise by their bytes.
+pub record EntriesAre : Type 0 where
+  pub each : (tree : Tree) (path : Path) (name : List ℕ) (node : Node) → node_at tree (path ++ name ∷ []) ≡ Some node → Contains (entries_of tree path) (entry_of name node)
+  pub only : (tree : Tree) (path : Path) (entry : Entry) → IsOrdered tree → Contains (entries_of tree path) entry
+      → (node : Node) × (node_at tree (path ++ entry.name ∷ []) ≡ Some node) × (entry ≡ entry_of entry.name node)
+  pub rise : (tree : Tree) (path : Path) → IsOrdered tree → NamesRise (entries_of tree path)

@@ -1,5 +1,5 @@
 //! Laws of the definition of the tree, each on a function whose contract it is.
-ghost use Rattle.tree_model.specs.Laws.{KeepsOrder, SameTree, PutAt, RefusedLeaves, RefusalTells, ChangesAreDone, ReadingLeaves, GivesLeast, KeepsTree, RenamesMove, NodesFollow, TouchesOnly, TouchesWritten, WidthsNeverFall, WidthsAreGreatest, NewDirectoriesAreEmpty};
+ghost use Rattle.tree_model.specs.Laws.{KeepsOrder, SameTree, PutAt, RefusedLeaves, RefusalTells, ChangesAreDone, ReadingLeaves, GivesLeast, KeepsTree, RenamesMove, NodesFollow, TouchesOnly, TouchesWritten, WidthsNeverFall, WidthsAreGreatest, NewDirectoriesAreEmpty, EntriesAre};
 
 /// A command leaves the tree in the order of its paths, each path once.
 pub fn keeps_order()
@@ -62,7 +62,7 @@ pub fn touches_only()
     ensures { TouchesOnly }
 {}
 
-/// Each place that a write touches has a byte of it.
+/// A write touches exactly the places in which it has a byte.
 pub fn touches_written()
     ensures { TouchesWritten }
 {}
@@ -80,4 +80,9 @@ pub fn widths_are_greatest()
 /// A new directory has no entries, and width 0.
 pub fn new_directories_are_empty()
     ensures { NewDirectoriesAreEmpty }
+{}
+
+/// The entries of a directory are exactly the nodes one name further, and their names rise by their bytes.
+pub fn entries_are()
+    ensures { EntriesAre }
 {}

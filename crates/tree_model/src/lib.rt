@@ -12,7 +12,7 @@ mod report;
 
 pub use command::{Command, MOST_BYTES, Payload, ReadLength, TooLong};
 pub use laws::{
-    changes_are_done, gives_least, keeps_order, keeps_tree, new_directories_are_empty,
+    changes_are_done, entries_are, gives_least, keeps_order, keeps_tree, new_directories_are_empty,
     nodes_follow, put_at, reading_leaves, refusal_tells, refused_leaves, renames_move, same_tree,
     touches_only, touches_written, widths_are_greatest, widths_never_fall,
 };

@@ -1,5 +1,5 @@
 -- What a legal answer is, and the state after it.
-use Rattle.std.proofs.Common.{◌≡◌, ℕ, Bool, true, false, cond, List, [], Some, None, inl, inr, refl, sym, ap, ◌∙◌}
+use Rattle.std.proofs.Common.{◌≡◌, ℕ, Bool, true, false, cond, List, [], Some, None, inl, inr, refl, sym, ap, subst, ◌∙◌}
 use Rattle.std.specs.Prelude.{◌&&◌, ◌⊎◌, Option, is_some}
 use Rattle.tree_model.specs.declared.command.Command.{Command}
 use Rattle.tree_model.specs.declared.command.Command.TheVariants.{Mkdir, Create, Write, Truncate, Remove, Rename, Read, List as ListOf, Stat, Layout, Space, Checkpoint, End}
@@ -15,7 +15,7 @@ use Rattle.volume_model.specs.Done.{done}
 use Rattle.volume_model.specs.Laws.{LegalIs, ExcusesAreFew, SomeIsLegal, RepliesAreTheTrees, NextTree, NextStored, recorded}
 use Rattle.volume_model.specs.Legal.{changes, is_due, is_full, reply_to, is_outside, is_excuse, when_answered, MayReport, Replies, IsLegal, is_done, answer_after, answer_with, fresh_told}
 use Rattle.volume_model.specs.Machine.{Machine, Rules, stored, free_of}
-use Rattle.volume_model.specs.Point.{IsPoint, after_point, report_of, fresh_in}
+use Rattle.volume_model.specs.Point.{after_point, fresh_in}
 use Rattle.volume_model.proofs.LineLaws.{points_exist}
 
 -- ---- which answers are legal
@@ -33,14 +33,13 @@ legal_is r m command answer legal none = by legal.reply
     by (inr excuse) = let no : true ≡ false = sym excuse ∙ none in cc
 
 pub some_is_legal : SomeIsLegal
-some_is_legal r m command fresh ordered may = by (is_due m command) refl
-  where
-    points : IsPoint r m (report_of r m fresh) × (fresh_in (report_of r m fresh) ≡ fresh)
-    points = points_exist r m fresh ordered may
-
-    by : (due : Bool) → is_due m command ≡ due → IsLegal r m command (answer_after r m command fresh due)
-    by true e = record { report = (e, points.0); reply = inl (e, ap (λ (f : List ℕ). reply_to (after_point r m f) command) (sym points.1)) }
-    by false e = record { report = tt; reply = inl (e, refl) }
+some_is_legal = record {
+  due = λ r m command fresh due ordered may.
+      let points = points_exist r m fresh ordered may in
+      subst (λ (t : Bool). IsLegal r m command (answer_after r m command fresh t)) (sym due)
+      (record { report = (due, points.0); reply = inl (due, ap (λ (f : List ℕ). reply_to (after_point r m f) command) (sym points.1)) });
+  not_due = λ r m command none. subst (λ (t : Bool). IsLegal r m command (answer_after r m command [] t)) (sym none) (record { report = tt; reply = inl (none, refl) });
+}
 
 -- ---- excuses
 

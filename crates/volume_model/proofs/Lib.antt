@@ -10,6 +10,7 @@ pub mod PlacesTold
 pub mod PointSpace
 pub mod ReportOrder
 pub mod Selecting
+pub mod RoomLaws
 pub mod SharedBytes
 pub mod SharedPlaces
 pub mod SharingLaws

@@ -15,6 +15,7 @@ use Rattle.tree_model.specs.declared.report.Report.{Report}
 use Rattle.tree_model.specs.Step.{step, is_change, is_plain}
 use Rattle.place_words.specs.Different.{different, is_among, span, Distinct}
 use Rattle.volume_model.specs.declared.sequence.Sequence.{Sequence}
+use Rattle.volume_model.specs.Accepted.{HasRoom}
 use Rattle.volume_model.specs.Cache.{CacheList, cached_blocks, use_block}
 use Rattle.space_account.specs.Charge.{need}
 use Rattle.volume_model.specs.Done.{mounted}
@@ -26,7 +27,7 @@ use Rattle.volume_model.specs.Places.{Places, is_block, unplaced, InOrder}
 use Rattle.volume_model.specs.Point.{IsPoint, after_point, report_of, may_be_fresh, fresh_in}
 use Rattle.volume_model.specs.Selection.{Matching, IsSelection}
 use Rattle.volume_model.specs.Sharing.{matches, selected, dirty_places}
-use Rattle.volume_model.specs.Short.{is_short}
+use Rattle.volume_model.specs.Short.{is_short, answered, IsLegalForNow}
 use Rattle.volume_model.specs.Whole.{IsWhole}
 
 -- ---- the selection
@@ -135,9 +136,18 @@ pub record ExcusesAreFew : Type 0 where
   pub checkpoint : (r : Rules) (m : Machine) (report : Report) (given : Reply) → IsLegal r m Checkpoint (record { report = Some report; reply = given }) → given ≡ reply.Done
   pub due : (r : Rules) (m : Machine) (command : Command) (given : Reply) → is_due m command ≡ true → IsLegal r m command (record { report = None; reply = given }) → IsTrue (is_outside given)
 
--- Some answer is always legal: the one with any blocks that may be fresh.
-abbrev pub SomeIsLegal : Type 0
-SomeIsLegal = (r : Rules) (m : Machine) (command : Command) (fresh : List ℕ) → InOrder (unplaced m.dirty) → may_be_fresh r m fresh ≡ true → IsLegal r m command (answer_with r m command fresh)
+-- Some answer is legal: where a point is due the one with any blocks that may be fresh, and where none is due the one with no point.
+pub record SomeIsLegal : Type 0 where
+  pub due : (r : Rules) (m : Machine) (command : Command) (fresh : List ℕ) → is_due m command ≡ true → InOrder (unplaced m.dirty) → may_be_fresh r m fresh ≡ true
+      → IsLegal r m command (answer_with r m command fresh)
+  pub not_due : (r : Rules) (m : Machine) (command : Command) → is_due m command ≡ false → IsLegal r m command (answer_with r m command [])
+
+-- A change that is answered as done has room in the state in which it is answered, also by an answer that is legal for now.
+pub record DoneHasRoom : Type 0 where
+  pub legal : (r : Rules) (m : Machine) (command : Command) (answer : Answer) → is_change command ≡ true → IsLegal r m command answer → answer.reply ≡ reply.Done
+      → HasRoom (when_answered r m answer.report) command
+  pub for_now : (r : Rules) (m : Machine) (command : Command) (answer : Answer) → is_change command ≡ true → IsLegalForNow r m command (answered answer) → answer.reply ≡ reply.Done
+      → HasRoom (when_answered r m answer.report) command
 
 -- A legal answer that is no excuse has the tree's reply to a command of the tree, or says that there is no space.
 abbrev pub RepliesAreTheTrees : Type 0

@@ -11,6 +11,7 @@ pub mod Lines
 pub mod Point
 pub mod Pieces
 pub mod Legal
+pub mod Accepted
 pub mod Short
 pub mod Whole
 pub mod Laws

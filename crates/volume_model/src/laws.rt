@@ -1,6 +1,6 @@
 //! Laws of the definitions, each on a function whose contract it is.
 ghost use Rattle.volume_model.specs.Laws.{OneSelection, SelectedIs, UseKeeps, MountedStores, IsAlwaysWhole, PointFits};
-ghost use Rattle.volume_model.specs.Laws.{FreshLinesAre, FreshAreUnused, PointsExist, OnePoint, PiecesAre, LegalIs, ExcusesAreFew, SomeIsLegal, RepliesAreTheTrees, NextTree, NextStored};
+ghost use Rattle.volume_model.specs.Laws.{FreshLinesAre, FreshAreUnused, PointsExist, OnePoint, PiecesAre, LegalIs, ExcusesAreFew, SomeIsLegal, DoneHasRoom, RepliesAreTheTrees, NextTree, NextStored};
 
 /// There is one selection of the sequences that are shared.
 pub fn one_selection()
@@ -69,9 +69,14 @@ pub fn excuses_are_few()
     ensures { ExcusesAreFew }
 {}
 
-/// Any blocks that may be fresh make a legal answer to any command.
+/// Where a point is due any blocks that may be fresh make a legal answer, and where none is due there is one with no point.
 pub fn some_is_legal()
     ensures { SomeIsLegal }
+{}
+
+/// A change that is answered as done has room: for its charge and its reserve beside what is pending, and for its record in the log.
+pub fn done_has_room()
+    ensures { DoneHasRoom }
 {}
 
 /// A legal answer that is no excuse has the tree's reply to a command of the tree, or says that there is no space.

@@ -1,5 +1,5 @@
-use Rattle.place_words.proofs.Counting.{among_times}
+use Rattle.place_words.proofs.Counting.{among_times, times_among}
 use Rattle.place_words.proofs.laws.among_times.Goals as goal
 
 pub returns : goal.returns
-returns c = among_times
+returns c = λ n ns. (among_times n ns, times_among n ns)

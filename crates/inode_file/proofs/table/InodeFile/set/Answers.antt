@@ -2,7 +2,8 @@ use Rattle.std.proofs.Common.{◌≤◌, ◌+◌, subst, arith}
 use Rattle.std.specs.Prelude.{slice_set}
 use Rattle.inode_file.specs.Rewriting.{written_blocks}
 use Rattle.inode_file.specs.Inodes.{InodeTable}
-use Rattle.inode_file.proofs.TableLaws.{table_set, vacant_set, written_set}
+use Rattle.inode_file.proofs.TableLaws.{table_set, written_set}
+use Rattle.inode_file.proofs.TakenLaws.{taken_set}
 use Rattle.inode_file.proofs.table.InodeFile.set.Goals as goal
 
 pub invariant_of-self : goal.invariant_of-self
@@ -10,7 +11,7 @@ invariant_of-self c =
     let s = c.self.inside in
     let t : InodeTable = record { inodes = s.inodes.items; stored = s.stored.items; pointers = s.pointers.ptrs; index = s.index } in (
       table_set t c.args.n c.args.inode (omega arith) c.requires.shape c.self.invariant.0,
-      vacant_set s.vacant c.set.new.self s.inodes.items c.args.n c.args.inode c.is_vacant.result (omega arith) c.is_vacant.ensures c.self.invariant.1 c.set.ensures,
+      taken_set s.taken c.set.new.self s.inodes.items c.args.n c.args.inode c.is_taken.result (omega arith) c.is_taken.ensures c.self.invariant.1 c.set.ensures,
     )
 
 pub returns-clause-whole : goal.returns-clause-whole

@@ -1,0 +1,4 @@
+pub mod FileBlocks
+pub mod Mountable
+pub mod Numbered
+pub mod SeenPlaces
