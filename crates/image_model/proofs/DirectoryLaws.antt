@@ -24,7 +24,7 @@ use Rattle.place_words.specs.Different.{is_among, Distinct, span}
 use Rattle.place_words.specs.Rising.{Rising, AllUnder}
 use Rattle.place_words.proofs.Rising.{rising_less}
 use Rattle.tree_model.specs.Path.{name_eq}
-use Rattle.image_model.specs.Planning.{DirectoryIsSeen}
+use Rattle.image_model.specs.Spelling.{DirectoryIsSeen}
 use Rattle.image_model.specs.Met.{Met, index, page, content, NoFaults}
 use Rattle.image_model.specs.Nodes.{is_bad_directory, is_slot_spelled, is_empty, has_twin, is_entry_name, AllBelow, blocks_in_node}
 use Rattle.image_model.specs.Planned.{node_trees}

@@ -12,7 +12,7 @@ use Rattle.block_format.specs.declared.inode.Inode.TheVariants.{File}
 use Rattle.block_tree.specs.Tree.{block_in, block_below, pairs_below, blocks_in}
 use Rattle.block_tree.proofs.Pairs.{pairs_are}
 use Rattle.tree_model.specs.declared.node.Content.TheVariants as tree
-use Rattle.image_model.specs.Planning.{FileIsSeen, PlacesAreSeen}
+use Rattle.image_model.specs.Spelling.{FileIsSeen, PlacesAreSeen}
 use Rattle.image_model.specs.Met.{NoFaults}
 use Rattle.image_model.specs.Nodes.{has_tail, AllBelow, blocks_in_node}
 use Rattle.image_model.specs.Seen.{Held, seen}

@@ -24,7 +24,7 @@ use Rattle.volume_model.specs.Space.{free_blocks, metadata_blocks}
 use Rattle.image_model.specs.Findings.{is_in_area}
 use Rattle.image_model.specs.Fresh.{IsFresh, fresh_inode, fresh_count, fresh_stored}
 use Rattle.image_model.specs.Holds.{HoldsTree}
-use Rattle.image_model.specs.Laws.{FreshStands}
+use Rattle.image_model.specs.Meanings.{FreshStands}
 use Rattle.image_model.specs.Planning.{FreshHasPoint}
 use Rattle.image_model.specs.Plan.{IsPlanned, metas_of}
 use Rattle.image_model.specs.Point.{HasPoint, IsAssembled}
@@ -204,23 +204,25 @@ module _ (g : Layout) (image : List Block) (fresh : IsFresh g image) where
 
   has : IsAssembled image (fresh_stored g)
   has = record {
-    root = fresh.has_root;
-    fits = fresh.fits;
-    layout = sym layout;
-    point = sym (ap (λ (r : Root). r.point) fresh.root);
-    log_empty = (refl, ap (λ (r : Root). r.records) fresh.root, ap (λ (r : Root). r.log_used) fresh.root);
+    laid = record {
+      root = fresh.has_root;
+      fits = fresh.fits;
+      layout = sym layout;
+      point = sym (ap (λ (r : Root). r.point) fresh.root);
+      log_empty = (refl, ap (λ (r : Root). r.records) fresh.root, ap (λ (r : Root). r.log_used) fresh.root);
+      counts = subst (λ (s : Seen). (b : ℕ) → b < 1024 * count_blocks (layout_in image) → get_or s.kept b 0 ≡ pointers_to b s.met) (sym seen_is)
+          (subst (λ (l : Layout). (b : ℕ) → b < 1024 * count_blocks l → get_or saw.kept b 0 ≡ pointers_to b saw.met) (sym layout) counts_are);
+      tails = subst (λ (s : Seen). (node : ℕ × Inode) → Contains s.nodes node → has_tail s node ≡ false) (sym seen_is) (one_node (λ node. has_tail saw node ≡ false) refl);
+      directories = subst (λ (s : Seen). (node : ℕ × Inode) → Contains s.nodes node → is_bad_directory s node ≡ false) (sym seen_is) (one_node (λ node. is_bad_directory saw node ≡ false) refl);
+      is_tree = keeps_trees.at_first;
+      holds = subst (λ (s : Seen). HoldsTree s new_tree) (sym seen_is) holds;
+      places = sym (ap (λ (s : Seen). map spot_of s.contents) seen_is);
+      reserve = subst (λ (l : Layout). 16 ≤ free_blocks l new_tree []) (sym layout) free;
+    };
     whole = subst (λ (s : Seen). NoFaults s.met) (sym seen_is) (tt, (tt, tt));
     metas = subst (λ (s : Seen). (b : ℕ) → is_among (metas s.met) b ≡ true → (is_in_area (layout_in image) b ≡ true) × (pointers_to b s.met ≡ 1)) (sym seen_is)
         (subst (λ (l : Layout). (b : ℕ) → is_among (metas saw.met) b ≡ true → (is_in_area l b ≡ true) × (pointers_to b saw.met ≡ 1)) (sym layout) metas_are);
     files = subst (λ (s : Seen). (b : ℕ) → is_among (files s.met) b ≡ true → is_in_area (layout_in image) b ≡ true) (sym seen_is) (λ b among. cc);
-    counts = subst (λ (s : Seen). (b : ℕ) → b < 1024 * count_blocks (layout_in image) → get_or s.kept b 0 ≡ pointers_to b s.met) (sym seen_is)
-        (subst (λ (l : Layout). (b : ℕ) → b < 1024 * count_blocks l → get_or saw.kept b 0 ≡ pointers_to b saw.met) (sym layout) counts_are);
-    tails = subst (λ (s : Seen). (node : ℕ × Inode) → Contains s.nodes node → has_tail s node ≡ false) (sym seen_is) (one_node (λ node. has_tail saw node ≡ false) refl);
-    directories = subst (λ (s : Seen). (node : ℕ × Inode) → Contains s.nodes node → is_bad_directory s node ≡ false) (sym seen_is) (one_node (λ node. is_bad_directory saw node ≡ false) refl);
-    is_tree = keeps_trees.at_first;
-    holds = subst (λ (s : Seen). HoldsTree s new_tree) (sym seen_is) holds;
-    places = sym (ap (λ (s : Seen). map spot_of s.contents) seen_is);
-    reserve = subst (λ (l : Layout). 16 ≤ free_blocks l new_tree []) (sym layout) free;
   }
     where
       two : metadata_blocks new_tree [] ≡ 2
@@ -234,23 +236,12 @@ module _ (g : Layout) (image : List Block) (fresh : IsFresh g image) where
 
   pub has_point : HasPoint image image (fresh_stored g)
   has_point = record {
-    root = has.root;
-    fits = has.fits;
+    laid = has.laid;
     layout = refl;
-    stored_layout = has.layout;
-    point = has.point;
-    log_empty = has.log_empty;
     for_metadata = [];
     for_files = [];
     fresh = record { free = λ b among. cc; once = λ b. omega arith };
     leads = record { whole = has.whole; metas = λ b. omega arith; files = λ b among. inl among };
-    counts = has.counts;
-    tails = has.tails;
-    directories = has.directories;
-    is_tree = has.is_tree;
-    holds = has.holds;
-    places = has.places;
-    reserve = has.reserve;
   }
 
   pub planned : IsPlanned image image fresh_inode

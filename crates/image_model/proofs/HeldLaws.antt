@@ -8,7 +8,7 @@ use Rattle.tree_model.specs.Path.{Path}
 use Rattle.tree_model.specs.Tree.{Tree, node_at}
 use Rattle.tree_model.specs.declared.node.Node.{Node}
 use Rattle.image_model.specs.Holds.{HoldsTree}
-use Rattle.image_model.specs.Laws.{TreeIsHeld}
+use Rattle.image_model.specs.Trees.{TreeIsHeld}
 use Rattle.image_model.specs.Seen.{Seen, seen}
 use Rattle.image_model.specs.Slots.{slots_of, inode_of, number_along}
 use Rattle.image_model.specs.Sound.{IsNamed}

@@ -14,7 +14,7 @@ use Rattle.op_log.proofs.LogLemmas.{one_log, used_blocks_tell, one_record_more}
 use Rattle.volume_model.specs.Accepted.{Accepts}
 use Rattle.volume_model.specs.Machine.{Stored}
 use Rattle.volume_model.specs.Space.{free_blocks}
-use Rattle.image_model.specs.Laws.{OneMeaning}
+use Rattle.image_model.specs.Meanings.{OneMeaning}
 use Rattle.image_model.specs.Live.{IsLive, logged, KeepsLive}
 use Rattle.image_model.specs.Next.{HasNext, and_command}
 use Rattle.image_model.specs.Seen.{Seen, seen}

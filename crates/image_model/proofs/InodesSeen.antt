@@ -7,7 +7,7 @@ use Rattle.root_switch.specs.Current.{root_of_image}
 use Rattle.block_format.specs.declared.inode.Inode.{Inode}
 use Rattle.block_format.specs.declared.inode.Inode.TheVariants.{Unused, File, Directory}
 use Rattle.block_tree.specs.Tree.{index_at, nonzero, blocks_in}
-use Rattle.image_model.specs.Planning.{InodesAreSeen}
+use Rattle.image_model.specs.Spelling.{InodesAreSeen}
 use Rattle.image_model.specs.Met.{index, NoFaults}
 use Rattle.image_model.specs.Planned.{node_trees, used_from}
 use Rattle.image_model.specs.Seen.{seen}

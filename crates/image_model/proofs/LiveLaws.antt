@@ -6,7 +6,7 @@ use Rattle.vol_numbers.specs.declared.block.Block.{Block}
 use Rattle.root_switch.specs.Current.{root_of_image, FitsImage}
 use Rattle.block_format.specs.Homes.{home_bit}
 use Rattle.image_model.specs.Findings.{is_in_area}
-use Rattle.image_model.specs.Laws.{NotLive, OldRootStands}
+use Rattle.image_model.specs.Meanings.{NotLive, OldRootStands}
 use Rattle.image_model.proofs.ImageLaws.{kept_stands}
 use Rattle.image_model.specs.Live.{IsLive, home, logged, counted}
 use Rattle.image_model.specs.Seen.{seen}

@@ -13,7 +13,7 @@ use Rattle.volume_model.specs.Machine.{Machine, Stored, at_point}
 use Rattle.volume_model.specs.Places.{Places, spot_cmp, InOrder, all_put}
 use Rattle.volume_model.specs.Lines.{lines_places}
 use Rattle.volume_model.specs.Point.{after_point, placed_at, fresh_spots, share_lines}
-use Rattle.image_model.specs.Laws.{AcceptedMore}
+use Rattle.image_model.specs.Meanings.{AcceptedMore}
 use Rattle.image_model.specs.Planning.{PointPlaces}
 use Rattle.image_model.proofs.PlaceOrder.{places_in_order, same_places, spot_total, true_T, T_true}
 

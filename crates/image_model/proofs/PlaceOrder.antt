@@ -19,7 +19,7 @@ use Rattle.block_tree.proofs.Rise.{places_in, pairs_rise}
 use Rattle.place_words.proofs.Rising.{rising_less}
 use Rattle.place_words.specs.Rising.{Rising}
 use Rattle.volume_model.specs.Places.{Places, Spot, spot_cmp}
-use Rattle.image_model.specs.Planning.{PlacesInOrder, SamePlaces}
+use Rattle.image_model.specs.Spelling.{PlacesInOrder, SamePlaces}
 use Rattle.image_model.specs.Met.{Met}
 use Rattle.image_model.specs.Seen.{seen, all_held, content_held}
 use Rattle.image_model.specs.Stands.{spot_of}

@@ -103,40 +103,40 @@ module _ (image : List Block) (s : Stored) (has : IsAssembled image s) where
 
   shows : Shows (seen image) s
   shows = record {
-    ordered = has.is_tree.ordered;
-    tree = tree_is (seen image) s.tree has.is_tree has.holds;
-    places = has.places;
+    ordered = has.laid.is_tree.ordered;
+    tree = tree_is (seen image) s.tree has.laid.is_tree has.laid.holds;
+    places = has.laid.places;
   }
 
   names : IsNamed (seen image)
-  names = named (seen image) s.tree has.is_tree has.holds
+  names = named (seen image) s.tree has.laid.is_tree has.laid.holds
 
   free_is : free_in (layout_in image) (seen image).kept ≡ free_blocks (layout_in image) s.tree s.places
   unfolding seen
   free_is = free_seen (blocks_in image) (root_of_image image).inode_index (root_of_image image).homes (count_blocks (layout_in image)) (layout_in image) s
-      pointers_good has.directories names has.counts shows (omega (arith, has.fits.geometry.valid.area_at_least))
+      pointers_good has.laid.directories names has.laid.counts shows (omega (arith, has.laid.fits.geometry.valid.area_at_least))
 
   assembled : Stands image s
   assembled = record {
-    root = has.root;
-    fits = has.fits;
-    layout = has.layout;
+    root = has.laid.root;
+    fits = has.laid.fits;
+    layout = has.laid.layout;
     sound = record {
       pointers = pointers_good;
-      tails = has.tails;
-      directories = has.directories;
+      tails = has.laid.tails;
+      directories = has.laid.directories;
       named = names;
-      counts = has.counts;
-      reserve = omega (arith, has.reserve, free_is);
+      counts = has.laid.counts;
+      reserve = omega (arith, has.laid.reserve, free_is);
     };
     shows = shows;
     logs = record {
-      count = ap (λ (cs : List Command). length cs) has.log_empty.0 ∙ sym has.log_empty.1;
-      logged = subst (λ (cs : List Command). HoldsRecords image (log_start (layout_in image)) (used_in image) cs) (sym has.log_empty.0) (record { stand = tt; within = omega arith });
-      filled = ap blocks_of has.log_empty.0 ∙ sym has.log_empty.2;
-      accepted = subst (λ (cs : List Command). Accepts (free_blocks (layout_in image) s.tree s.places) s.tree 0 cs) (sym has.log_empty.0) tt;
+      count = ap (λ (cs : List Command). length cs) has.laid.log_empty.0 ∙ sym has.laid.log_empty.1;
+      logged = subst (λ (cs : List Command). HoldsRecords image (log_start (layout_in image)) (used_in image) cs) (sym has.laid.log_empty.0) (record { stand = tt; within = omega arith });
+      filled = ap blocks_of has.laid.log_empty.0 ∙ sym has.laid.log_empty.2;
+      accepted = subst (λ (cs : List Command). Accepts (free_blocks (layout_in image) s.tree s.places) s.tree 0 cs) (sym has.laid.log_empty.0) tt;
     };
-    point = has.point;
+    point = has.laid.point;
   }
 
 pub assembled_stands : AssembledStands
@@ -215,19 +215,8 @@ module _ (old new : List Block) (before s : Stored) (stands : Stands old before)
 
   pub point_stands : Stands new s
   point_stands = assembled_stands new s (record {
-    root = has.root;
-    fits = has.fits;
-    layout = has.stored_layout;
-    point = has.point;
-    log_empty = has.log_empty;
+    laid = has.laid;
     whole = has.leads.whole;
     metas = λ b among. let good = of_meta b among in (subst (λ (l : Layout). is_in_area l b ≡ true) (sym has.layout) good.0, good.1);
     files = λ b among. subst (λ (l : Layout). is_in_area l b ≡ true) (sym has.layout) (of_file b among);
-    counts = has.counts;
-    tails = has.tails;
-    directories = has.directories;
-    is_tree = has.is_tree;
-    holds = has.holds;
-    places = has.places;
-    reserve = has.reserve;
   })

@@ -25,7 +25,7 @@ use Rattle.tree_model.specs.declared.node.Content.{Content}
 use Rattle.tree_model.specs.declared.node.Content.TheVariants as tree
 use Rattle.tree_model.specs.declared.reply.Entry.{Entry}
 use Rattle.tree_model.proofs.Fronts.{strip_is}
-use Rattle.image_model.specs.Laws.{StandingTree}
+use Rattle.image_model.specs.Trees.{StandingTree}
 use Rattle.image_model.specs.Nodes.{is_empty, is_slot_spelled, has_twin, number_named}
 use Rattle.image_model.specs.Seen.{Seen, seen, seen_from}
 use Rattle.image_model.specs.Slots.{slot_pieces, slots_of, inode_of, number_along}

@@ -17,7 +17,7 @@ use Rattle.tree_model.specs.Tree.{Tree, node_at, with_node}
 use Rattle.tree_model.specs.declared.node.Node.{Node}
 use Rattle.tree_model.proofs.AttemptLaws.{path_total, put_at}
 use Rattle.tree_model.proofs.Paths.{same_path}
-use Rattle.image_model.specs.Laws.{TreeExists}
+use Rattle.image_model.specs.Trees.{TreeExists}
 use Rattle.image_model.specs.Seen.{Seen}
 use Rattle.image_model.specs.Slots.{inode_of, number_along}
 use Rattle.image_model.specs.Sound.{IsNamed}

@@ -26,16 +26,13 @@ pub record LeadsTo (old new : List Block) (for_metadata for_files : List ℕ) : 
   pub metas : (b : ℕ) → times b (metas (seen new).met) ≤ times b (metas (seen old).met) + times b for_metadata
   pub files : (b : ℕ) → is_among (files (seen new).met) b ≡ true → (is_among (files (seen old).met) b ≡ true) ⊎ (is_among for_files b ≡ true)
 
--- The image has an empty log and a root that leads to this tree with these places, whatever stood there before.
-pub record IsAssembled (image : List Block) (s : Stored) : Type 0 where
+-- The image has an empty log and a root that fits it, and what is seen of it is this tree with these places, wherever its blocks lie.
+pub record IsLaidOut (image : List Block) (s : Stored) : Type 0 where
   pub root : HasRoot image
   pub fits : FitsImage image
   pub layout : s.layout ≡ layout_in image
   pub point : s.point ≡ (root_of_image image).point
   pub log_empty : (s.records ≡ []) × (records_in image ≡ 0) × (used_in image ≡ 0)
-  pub whole : NoFaults (seen image).met
-  pub metas : (b : ℕ) → is_among (metas (seen image).met) b ≡ true → (is_in_area (layout_in image) b ≡ true) × (pointers_to b (seen image).met ≡ 1)
-  pub files : (b : ℕ) → is_among (files (seen image).met) b ≡ true → is_in_area (layout_in image) b ≡ true
   pub counts : (b : ℕ) → b < 1024 * count_blocks (layout_in image) → get_or (seen image).kept b 0 ≡ pointers_to b (seen image).met
   pub tails : (node : ℕ × Inode) → Contains (seen image).nodes node → has_tail (seen image) node ≡ false
   pub directories : (node : ℕ × Inode) → Contains (seen image).nodes node → is_bad_directory (seen image) node ≡ false
@@ -44,22 +41,18 @@ pub record IsAssembled (image : List Block) (s : Stored) : Type 0 where
   pub places : s.places ≡ map spot_of (seen image).contents
   pub reserve : 16 ≤ free_blocks (layout_in image) s.tree s.places
 
--- New has an empty log, and a root that leads to this tree with these places, by blocks of old and by blocks that were free in it.
+-- The image is laid out, and its blocks lie in the area, whatever stood there before. Each block of metadata has one pointer.
+pub record IsAssembled (image : List Block) (s : Stored) : Type 0 where
+  pub laid : IsLaidOut image s
+  pub whole : NoFaults (seen image).met
+  pub metas : (b : ℕ) → is_among (metas (seen image).met) b ≡ true → (is_in_area (layout_in image) b ≡ true) × (pointers_to b (seen image).met ≡ 1)
+  pub files : (b : ℕ) → is_among (files (seen image).met) b ≡ true → is_in_area (layout_in image) b ≡ true
+
+-- New is laid out, in the layout of old, and leads to blocks of old and to blocks that were free in it.
 pub record HasPoint (old new : List Block) (s : Stored) : Type 0 where
-  pub root : HasRoot new
-  pub fits : FitsImage new
+  pub laid : IsLaidOut new s
   pub layout : layout_in new ≡ layout_in old
-  pub stored_layout : s.layout ≡ layout_in new
-  pub point : s.point ≡ (root_of_image new).point
-  pub log_empty : (s.records ≡ []) × (records_in new ≡ 0) × (used_in new ≡ 0)
   pub for_metadata : List ℕ
   pub for_files : List ℕ
   pub fresh : TakesFree old for_metadata for_files
   pub leads : LeadsTo old new for_metadata for_files
-  pub counts : (b : ℕ) → b < 1024 * count_blocks (layout_in new) → get_or (seen new).kept b 0 ≡ pointers_to b (seen new).met
-  pub tails : (node : ℕ × Inode) → Contains (seen new).nodes node → has_tail (seen new) node ≡ false
-  pub directories : (node : ℕ × Inode) → Contains (seen new).nodes node → is_bad_directory (seen new) node ≡ false
-  pub is_tree : IsTree s.tree
-  pub holds : HoldsTree (seen new) s.tree
-  pub places : s.places ≡ map spot_of (seen new).contents
-  pub reserve : 16 ≤ free_blocks (layout_in new) s.tree s.places

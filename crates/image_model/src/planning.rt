@@ -1,7 +1,9 @@
 //! Laws of what a point plans and leaves.
-ghost use Rattle.image_model.specs.Planning.{PointStands, AssembledStands, PlanLeads, FreshHasPoint, InodesAreSeen, WalkIsSpelled};
-ghost use Rattle.image_model.specs.Planning.{CountsAreSpelled, DirectoryIsSeen, FileIsSeen, PlacesAreSeen, PlacesInOrder, SamePlaces};
-ghost use Rattle.image_model.specs.Planning.{PointPlaces, PointersAreListed};
+ghost use Rattle.image_model.specs.Planning.{PointStands, AssembledStands, PlanLeads, FreshHasPoint};
+ghost use Rattle.image_model.specs.Spelling.{InodesAreSeen, WalkIsSpelled};
+ghost use Rattle.image_model.specs.Spelling.{CountsAreSpelled, DirectoryIsSeen, FileIsSeen, PlacesAreSeen, PlacesInOrder, SamePlaces};
+ghost use Rattle.image_model.specs.Planning.{PointPlaces};
+ghost use Rattle.image_model.specs.Spelling.{PointersAreListed};
 
 /// After a point an image stands for the tree and the places that the point made.
 pub fn point_stands()

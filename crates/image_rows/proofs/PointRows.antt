@@ -294,23 +294,25 @@ free_after = free_is rewritten none_after
 
 point_left : HasPoint small rewritten after
 point_left = record {
-  root = root_after.0;
-  fits = root_after.1;
+  laid = record {
+    root = root_after.0;
+    fits = root_after.1;
+    layout = refl;
+    point = refl;
+    log_empty = (refl, no_records_after, none_used_after);
+    counts = after_stands.sound.counts;
+    tails = after_stands.sound.tails;
+    directories = after_stands.sound.directories;
+    is_tree = standing_tree rewritten after after_stands;
+    holds = tree_is_held rewritten after after_stands;
+    places = refl;
+    reserve = subst (λ (n : ℕ). 16 ≤ n) free_after after_stands.sound.reserve;
+  };
   layout = same_layout;
-  stored_layout = refl;
-  point = refl;
-  log_empty = (refl, no_records_after, none_used_after);
   for_metadata = 108 ∷ 109 ∷ [];
   for_files = 107 ∷ [];
   fresh = takes;
   leads = leads;
-  counts = after_stands.sound.counts;
-  tails = after_stands.sound.tails;
-  directories = after_stands.sound.directories;
-  is_tree = standing_tree rewritten after after_stands;
-  holds = tree_is_held rewritten after after_stands;
-  places = refl;
-  reserve = subst (λ (n : ℕ). 16 ≤ n) free_after after_stands.sound.reserve;
 }
 
 pub point_is_met : PointIsMet

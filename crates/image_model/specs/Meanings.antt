@@ -1,4 +1,4 @@
--- Laws of what an image stands for.
+-- Laws of what an image stands for, and of what may be written without a change of that.
 use Rattle.std.specs.Prelude.{false, ◌≡◌, ◌<◌, ◌≤◌, ℕ, ◌+◌, ◌*◌, List, [], ◌∷◌, ◌++◌, get_or, ◌-◌, true}
 use Rattle.vol_numbers.specs.Layout.{Layout, count_blocks, log_start}
 use Rattle.block_format.specs.Homes.{home_bit}
@@ -6,10 +6,6 @@ use Rattle.vol_numbers.specs.declared.block.Block.{Block}
 use Rattle.disk_model.specs.Disk.{State, IsImage, is_among}
 use Rattle.root_switch.specs.Switch.{HasOldRoot}
 use Rattle.root_switch.specs.Current.{root_of_image, FitsImage}
-use Rattle.tree_model.specs.Order.{IsOrdered}
-use Rattle.tree_model.specs.Path.{Path}
-use Rattle.tree_model.specs.Shape.{IsTree}
-use Rattle.tree_model.specs.Tree.{Tree, node_at}
 use Rattle.tree_model.specs.declared.command.Command.{Command}
 use Rattle.space_account.specs.Charge.{need, pending}
 use Rattle.tree_model.specs.Step.{step}
@@ -20,12 +16,10 @@ use Rattle.volume_model.specs.Done.{mounted}
 use Rattle.volume_model.specs.Space.{free_blocks}
 use Rattle.image_model.specs.Findings.{free_in, is_in_area}
 use Rattle.image_model.specs.Fresh.{IsFresh, fresh_stored}
-use Rattle.image_model.specs.Holds.{HoldsTree}
 use Rattle.image_model.specs.Live.{IsLive, KeepsLive, OpensNoLive}
 use Rattle.image_model.specs.Next.{HasNext, and_command}
-use Rattle.image_model.specs.Seen.{Seen, seen}
-use Rattle.image_model.specs.Sound.{IsNamed}
-use Rattle.image_model.specs.Stands.{Stands, layout_in, node_along, used_in}
+use Rattle.image_model.specs.Seen.{seen}
+use Rattle.image_model.specs.Stands.{Stands, layout_in, used_in}
 
 -- An image stands for one thing at most.
 abbrev pub OneMeaning : Type 0
@@ -73,22 +67,6 @@ OldRootStands = (state : State) (slot : ℕ) (image : List Block) (s : Stored) �
 -- The blocks of the area with count 0 are as many as the formula over the tree and its places says.
 abbrev pub FreeIsCounted : Type 0
 FreeIsCounted = (image : List Block) (s : Stored) → Stands image s → free_in (layout_in image) (seen image).kept ≡ free_blocks (layout_in image) s.tree s.places
-
--- What an image stands for is a tree in all that is asked of one: fronts of paths are directories, and numbers, widths and sizes have their limits.
-abbrev pub StandingTree : Type 0
-StandingTree = (image : List Block) (s : Stored) → Stands image s → IsTree s.tree
-
--- An image that stands for a tree holds it node by node.
-abbrev pub TreeIsHeld : Type 0
-TreeIsHeld = (image : List Block) (s : Stored) → Stands image s → HoldsTree (seen image) s.tree
-
--- A tree that is held node by node is seen, and its numbers have one path each.
-abbrev pub HeldIsSeen : Type 0
-HeldIsSeen = (s : Seen) (tree : Tree) → IsTree tree → HoldsTree s tree → ((path : Path) → node_at tree path ≡ node_along s path) × IsNamed s
-
--- Where each used number has one path, a tree is seen.
-abbrev pub TreeExists : Type 0
-TreeExists = (s : Seen) → IsNamed s → (tree : Tree) × IsOrdered tree × ((path : Path) → node_at tree path ≡ node_along s path)
 
 -- What a format leaves stands for the root directory alone.
 abbrev pub FreshStands : Type 0
