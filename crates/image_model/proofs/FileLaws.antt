@@ -15,7 +15,7 @@ use Rattle.tree_model.specs.declared.node.Content.TheVariants as tree
 use Rattle.image_model.specs.Spelling.{FileIsSeen, PlacesAreSeen}
 use Rattle.image_model.specs.Met.{NoFaults}
 use Rattle.image_model.specs.Nodes.{has_tail, AllBelow, blocks_in_node}
-use Rattle.image_model.specs.Seen.{Held, seen}
+use Rattle.image_model.specs.Seen.{SeenBlock, seen}
 use Rattle.image_model.specs.Slots.{held_at, inode_of}
 use Rattle.image_model.specs.Standing.{some_block, file_block, FileStands}
 use Rattle.image_model.specs.Stands.{bytes_from}
@@ -123,7 +123,7 @@ tail_hole (suc k) = refl
 
 module _ (image : List Block) (n : ℕ) (bytes : List ℕ) (height ptr : ℕ) (none : NoFaults (seen image).met) (is : inode_of (seen image).nodes n ≡ File (length bytes) height ptr)
     (stands : FileStands (blocks_in image) bytes height ptr) where
-  abbrev hs : List Held
+  abbrev hs : List SeenBlock
   hs = (seen image).contents
 
   held_is : (p : ℕ) → held_at hs n p ≡ bytes_held (held_here (blocks_in image) n p (some_block (block_below (blocks_in image) height ptr p)))
@@ -190,8 +190,8 @@ file_is_seen image n bytes height ptr none is stands =
 
 pub places_are_seen : PlacesAreSeen
 places_are_seen image n size height ptr place none is =
-    find_from (seen image).contents n place ∙ ap (λ o. option_map (λ (h : Held). h.block) o) (file_found image n size height ptr place none is) ∙ by (block_below (blocks_in image) height ptr place == 0)
+    find_from (seen image).contents n place ∙ ap (λ o. option_map (λ (h : SeenBlock). h.block) o) (file_found image n size height ptr place none is) ∙ by (block_below (blocks_in image) height ptr place == 0)
   where
-    by : (t : Bool) → option_map (λ (h : Held). h.block) (held_here (blocks_in image) n place (cond t None (Some (block_below (blocks_in image) height ptr place)))) ≡ cond t None (Some (block_below (blocks_in image) height ptr place))
+    by : (t : Bool) → option_map (λ (h : SeenBlock). h.block) (held_here (blocks_in image) n place (cond t None (Some (block_below (blocks_in image) height ptr place)))) ≡ cond t None (Some (block_below (blocks_in image) height ptr place))
     by true = refl
     by false = refl

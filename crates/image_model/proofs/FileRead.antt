@@ -14,7 +14,7 @@ use Rattle.tree_model.specs.declared.node.Content.TheVariants as tree
 use Rattle.image_model.specs.Met.{NoFaults}
 use Rattle.image_model.specs.Nodes.{has_tail}
 use Rattle.image_model.specs.Reading.{FilesStand}
-use Rattle.image_model.specs.Seen.{Seen, Held, seen}
+use Rattle.image_model.specs.Seen.{Seen, SeenBlock, seen}
 use Rattle.image_model.specs.Slots.{held_at, inode_of}
 use Rattle.image_model.specs.Standing.{some_block, file_block, PlaceStands}
 use Rattle.image_model.specs.Stands.{node_of, bytes_from, layout_in}
@@ -27,7 +27,7 @@ use Rattle.image_model.proofs.SpaceLaws.{held_length, file_length, node_there}
 use Rattle.image_model.proofs.StandingTree.{content_is, file_same, apart}
 
 -- the bytes of a place, with zeros up to the end of a block
-abbrev piece : List Held → ℕ → ℕ → List ℕ
+abbrev piece : List SeenBlock → ℕ → ℕ → List ℕ
 piece held n place = take 4096 (held_at held n place ++ replicate 4096 0)
 
 zeros_are : (xs : List ℕ) → list_all (λ b. b == 0) xs ≡ true → xs ≡ replicate (length xs) 0
@@ -60,7 +60,7 @@ drop_here (x ∷ xs) ys n long =
     ap (λ (k : ℕ). drop k (x ∷ (xs ++ ys))) e ∙ drop_here xs ys (n - 1) (omega (arith, long))
 
 -- the bytes of the places from a later one on
-from_later : (held : List Held) (n place p k : ℕ) → drop (4096 * p) (bytes_from held n place (p + k)) ≡ bytes_from held n (place + p) k
+from_later : (held : List SeenBlock) (n place p k : ℕ) → drop (4096 * p) (bytes_from held n place (p + k)) ≡ bytes_from held n (place + p) k
 from_later held n place zero k = let e : zero + k ≡ k = omega arith in let f : place + zero ≡ place = omega arith in λ i. bytes_from held n (sym f i) (e i)
 from_later held n place (suc p) k =
     let e : suc p + k ≡ suc (p + k) = omega arith in
@@ -71,7 +71,7 @@ from_later held n place (suc p) k =
     ∙ ap (drop (4096 * p)) (drop_here (piece held n place) (bytes_from held n (place + 1) (p + k)) 4096 (held_length (held_at held n place)))
     ∙ from_later held n (place + 1) p k ∙ ap (λ (q : ℕ). bytes_from held n q k) g
 
-module _ (held : List Held) (n size : ℕ) where
+module _ (held : List SeenBlock) (n size : ℕ) where
   abbrev bytes : List ℕ
   bytes = take size (bytes_from held n 0 (blocks_of size))
 
@@ -117,7 +117,7 @@ module _ (held : List Held) (n size : ℕ) where
 
 module _ (image : List Block) (n size height ptr : ℕ) (none : NoFaults (seen image).met) (is : inode_of (seen image).nodes n ≡ File size height ptr)
     (clean : has_tail (seen image) (n, File size height ptr) ≡ false) where
-  abbrev hs : List Held
+  abbrev hs : List SeenBlock
   hs = (seen image).contents
 
   held_is : (p : ℕ) → held_at hs n p ≡ bytes_held (held_here (blocks_in image) n p (some_block (block_below (blocks_in image) height ptr p)))

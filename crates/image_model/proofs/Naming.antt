@@ -20,7 +20,7 @@ use Rattle.image_model.proofs.Entries.{Entry, is_of, entry_at, leads, times_name
 use Rattle.image_model.specs.Met.{Met, index}
 use Rattle.image_model.specs.Nodes.{has_twin, is_bad_directory, is_entry_name, is_slot_spelled, number_named, names_of}
 use Rattle.image_model.specs.Planned.{node_trees}
-use Rattle.image_model.specs.Seen.{Seen, Held, seen_from, all_held, page_held}
+use Rattle.image_model.specs.Seen.{Seen, SeenBlock, seen_from, all_held, page_held}
 use Rattle.image_model.specs.Slots.{slot_pieces, slots_of, slots_from, inode_of, number_along}
 use Rattle.image_model.specs.Sound.{AllGood}
 use Rattle.image_model.specs.Walk.{is_used, is_directory, nodes_at, blocks_inodes}
@@ -225,14 +225,14 @@ spelled_in d ((slots.Entry number name, bytes) ∷ pieces) all =
 
 -- ---- pages of a number
 
-pub no_pieces : (pages : List Held) (n : ℕ) → count_by (λ h. h.number == n) pages ≡ 0 → slot_pieces pages n ≡ []
+pub no_pieces : (pages : List SeenBlock) (n : ℕ) → count_by (λ h. h.number == n) pages ≡ 0 → slot_pieces pages n ≡ []
 no_pieces [] n none = refl
 no_pieces (h ∷ pages) n none = by (h.number == n) refl (no_pieces pages n)
   where
-    cons : count_by (λ (h : Held). h.number == n) (h ∷ pages) ≡ cond (h.number == n) 1 0 + count_by (λ (h : Held). h.number == n) pages
-    cons = sum_by-cons (λ (h : Held). cond (h.number == n) 1 0) h pages
+    cons : count_by (λ (h : SeenBlock). h.number == n) (h ∷ pages) ≡ cond (h.number == n) 1 0 + count_by (λ (h : SeenBlock). h.number == n) pages
+    cons = sum_by-cons (λ (h : SeenBlock). cond (h.number == n) 1 0) h pages
 
-    by : (t : Bool) → (h.number == n) ≡ t → (count_by (λ (h : Held). h.number == n) pages ≡ 0 → slot_pieces pages n ≡ []) → (cond t (slots_from 16 h.bytes) [] ++ slot_pieces pages n) ≡ []
+    by : (t : Bool) → (h.number == n) ≡ t → (count_by (λ (h : SeenBlock). h.number == n) pages ≡ 0 → slot_pieces pages n ≡ []) → (cond t (slots_from 16 h.bytes) [] ++ slot_pieces pages n) ≡ []
     by true is more = let weight : Bool → ℕ = λ t. cond t 1 0 in absurd (omega (arith, none, cons, ap weight is))
     by false is more = more (omega (arith, none, cons))
 

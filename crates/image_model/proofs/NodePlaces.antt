@@ -18,7 +18,7 @@ use Rattle.volume_model.specs.Places.{Places, Spot, places_of}
 use Rattle.image_model.specs.Met.{Met, index, page, content}
 use Rattle.image_model.specs.Walk.{is_used, inodes_from, blocks_inodes, nodes_of, nodes_at}
 use Rattle.image_model.specs.Planned.{node_trees}
-use Rattle.image_model.specs.Seen.{Held, all_held, content_held, page_held}
+use Rattle.image_model.specs.Seen.{SeenBlock, all_held, content_held, page_held}
 use Rattle.image_model.specs.Slots.{inode_of}
 use Rattle.image_model.specs.Stands.{spot_of}
 
@@ -79,9 +79,9 @@ node_spots read (n, Unused) = []
 node_spots read (n, File size height ptr) = map (λ (e : ℕ × ℕ). ((n, e.0), e.1)) (pairs_below read height ptr)
 node_spots read (n, Directory width height ptr) = []
 
-pub held_append : (f : Met → List Held) (xs ys : List Met) → all_held f (xs ++ ys) ≡ all_held f xs ++ all_held f ys
+pub held_append : (f : Met → List SeenBlock) (xs ys : List Met) → all_held f (xs ++ ys) ≡ all_held f xs ++ all_held f ys
 held_append f [] ys = refl
-held_append f (x ∷ xs) ys = ap (λ (hs : List Held). f x ++ hs) (held_append f xs ys) ∙ sym (append_assoc (f x) (all_held f xs) (all_held f ys))
+held_append f (x ∷ xs) ys = ap (λ (hs : List SeenBlock). f x ++ hs) (held_append f xs ys) ∙ sym (append_assoc (f x) (all_held f xs) (all_held f ys))
 
 pub no_contents : (read : Blocks) (bs : List ℕ) → all_held (content_held read) (map index bs) ≡ []
 no_contents read [] = refl
@@ -180,7 +180,7 @@ places_at read n (node ∷ nodes) distinct =
 
 -- ---- the blocks of directories
 
-abbrev pub is_of : ℕ → Held → Bool
+abbrev pub is_of : ℕ → SeenBlock → Bool
 is_of n h = h.number == n
 
 abbrev pub directory_pairs : Blocks → Inode → List (ℕ × ℕ)
@@ -203,7 +203,7 @@ nil_either false = refl
 pages_count : (read : Blocks) (n m : ℕ) (pairs : List (ℕ × ℕ)) → count_by (is_of n) (all_held (page_held read) (map (λ (e : ℕ × ℕ). page m e.0 e.1) pairs)) ≡ cond (nat_eq m n) (length pairs) 0
 pages_count read n m [] = nil_either (nat_eq m n)
 pages_count read n m (e ∷ pairs) =
-    sum_by-cons (λ (h : Held). cond (is_of n h) 1 0) (record { number = m; place = e.0; block = e.1; bytes = read e.1 }) (all_held (page_held read) (map (λ (e : ℕ × ℕ). page m e.0 e.1) pairs))
+    sum_by-cons (λ (h : SeenBlock). cond (is_of n h) 1 0) (record { number = m; place = e.0; block = e.1; bytes = read e.1 }) (all_held (page_held read) (map (λ (e : ℕ × ℕ). page m e.0 e.1) pairs))
     ∙ by (nat_eq m n) (pages_count read n m pairs)
   where
     by : (t : Bool) → count_by (is_of n) (all_held (page_held read) (map (λ (e : ℕ × ℕ). page m e.0 e.1) pairs)) ≡ cond t (length pairs) 0
@@ -211,8 +211,8 @@ pages_count read n m (e ∷ pairs) =
     by true more = omega (arith, more)
     by false more = omega (arith, more)
 
-count_append : (n : ℕ) (xs ys : List Held) → count_by (is_of n) (xs ++ ys) ≡ count_by (is_of n) xs + count_by (is_of n) ys
-count_append n xs ys = sum_by-append (λ (h : Held). cond (is_of n h) 1 0) xs ys
+count_append : (n : ℕ) (xs ys : List SeenBlock) → count_by (is_of n) (xs ++ ys) ≡ count_by (is_of n) xs + count_by (is_of n) ys
+count_append n xs ys = sum_by-append (λ (h : SeenBlock). cond (is_of n h) 1 0) xs ys
 
 node_pages : (read : Blocks) (n : ℕ) (node : ℕ × Inode) → count_by (is_of n) (all_held (page_held read) (node_trees read node)) ≡ cond (nat_eq node.0 n) (length (directory_pairs read node.1)) 0
 node_pages read n (m, Unused) = nil_either (nat_eq m n)

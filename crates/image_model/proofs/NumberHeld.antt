@@ -21,7 +21,7 @@ use Rattle.volume_model.specs.Places.{Spot, spot_cmp}
 use Rattle.image_model.specs.Met.{Met, index, page, content, NoFaults}
 use Rattle.image_model.specs.Standing.{some_block}
 use Rattle.image_model.specs.Planned.{node_trees}
-use Rattle.image_model.specs.Seen.{Held, seen, all_held, content_held}
+use Rattle.image_model.specs.Seen.{SeenBlock, seen, all_held, content_held}
 use Rattle.image_model.specs.Slots.{held_at, inode_of}
 use Rattle.image_model.specs.Stands.{spot_of}
 use Rattle.image_model.specs.Walk.{nodes_at}
@@ -30,15 +30,15 @@ use Rattle.image_model.proofs.NodeWalk.{walk_good}
 use Rattle.image_model.proofs.PlaceOrder.{spot_total, spot_tie}
 
 -- what is held at a place of a number
-pub found_at : List Held → ℕ → ℕ → Option Held
+pub found_at : List SeenBlock → ℕ → ℕ → Option SeenBlock
 found_at [] n p = None
 found_at (h ∷ hs) n p = cond (h.number == n && h.place == p) (Some h) (found_at hs n p)
 
-abbrev pub bytes_held : Option Held → List ℕ
+abbrev pub bytes_held : Option SeenBlock → List ℕ
 bytes_held None = []
 bytes_held (Some h) = h.bytes
 
-pub held_from : (hs : List Held) (n p : ℕ) → held_at hs n p ≡ bytes_held (found_at hs n p)
+pub held_from : (hs : List SeenBlock) (n p : ℕ) → held_at hs n p ≡ bytes_held (found_at hs n p)
 unfolding found_at
 held_from [] n p = refl
 held_from (h ∷ hs) n p = by (h.number == n && h.place == p) (held_from hs n p)
@@ -72,21 +72,21 @@ spot_test n p m q = by (m == n) refl (q == p) refl
     by true a false b = never _ refl (λ both. let no : (m == n && q == p) ≡ false = (λ i. a i && q == p) ∙ b in cc)
     by false a u b = never _ refl (λ both. let no : (m == n && q == p) ≡ false = ap (λ (t : Bool). t && q == p) a in cc)
 
-pub find_from : (hs : List Held) (n p : ℕ) → find spot_cmp (n, p) (map spot_of hs) ≡ option_map (λ (h : Held). h.block) (found_at hs n p)
+pub find_from : (hs : List SeenBlock) (n p : ℕ) → find spot_cmp (n, p) (map spot_of hs) ≡ option_map (λ (h : SeenBlock). h.block) (found_at hs n p)
 unfolding found_at
 find_from [] n p = refl
 find_from (h ∷ hs) n p = ap (λ (t : Bool). cond t (Some h.block) (find spot_cmp (n, p) (map spot_of hs))) (spot_test n p h.number h.place) ∙ by (h.number == n && h.place == p) (find_from hs n p)
   where
-    by : (t : Bool) → find spot_cmp (n, p) (map spot_of hs) ≡ option_map (λ (h : Held). h.block) (found_at hs n p)
-        → cond t (Some h.block) (find spot_cmp (n, p) (map spot_of hs)) ≡ option_map (λ (h : Held). h.block) (cond t (Some h) (found_at hs n p))
+    by : (t : Bool) → find spot_cmp (n, p) (map spot_of hs) ≡ option_map (λ (h : SeenBlock). h.block) (found_at hs n p)
+        → cond t (Some h.block) (find spot_cmp (n, p) (map spot_of hs)) ≡ option_map (λ (h : SeenBlock). h.block) (cond t (Some h) (found_at hs n p))
     by true more = refl
     by false more = more
 
-or_else : Option Held → Option Held → Option Held
+or_else : Option SeenBlock → Option SeenBlock → Option SeenBlock
 or_else None b = b
 or_else (Some x) b = Some x
 
-found_append : (xs ys : List Held) (n p : ℕ) → found_at (xs ++ ys) n p ≡ or_else (found_at xs n p) (found_at ys n p)
+found_append : (xs ys : List SeenBlock) (n p : ℕ) → found_at (xs ++ ys) n p ≡ or_else (found_at xs n p) (found_at ys n p)
 unfolding found_at or_else
 found_append [] ys n p = refl
 found_append (h ∷ hs) ys n p = by (h.number == n && h.place == p) (found_append hs ys n p)
@@ -95,7 +95,7 @@ found_append (h ∷ hs) ys n p = by (h.number == n && h.place == p) (found_appen
     by true more = refl
     by false more = more
 
-or_none : (o : Option Held) → or_else o None ≡ o
+or_none : (o : Option SeenBlock) → or_else o None ≡ o
 unfolding or_else
 or_none None = refl
 or_none (Some x) = refl
@@ -144,7 +144,7 @@ pair_below read height ptr p = pair_block (pairs_below read height ptr) (pairs_s
 
 -- ---- the blocks of files
 
-abbrev pub held_here : Blocks → ℕ → ℕ → Option ℕ → Option Held
+abbrev pub held_here : Blocks → ℕ → ℕ → Option ℕ → Option SeenBlock
 held_here read n p o = option_map (λ (b : ℕ). record { number = n; place = p; block = b; bytes = read b }) o
 
 abbrev file_pairs : Blocks → Inode → List (ℕ × ℕ)
@@ -153,7 +153,7 @@ file_pairs read (File size height ptr) = pairs_below read height ptr
 file_pairs read (Directory width height ptr) = []
 
 module _ (read : Blocks) (n p : ℕ) where
-  abbrev contents : List Met → Option Held
+  abbrev contents : List Met → Option SeenBlock
   contents ms = found_at (all_held (content_held read) ms) n p
 
   own : (m : ℕ) → nat_eq m n ≡ true → (pairs : List (ℕ × ℕ)) → contents (map (λ (e : ℕ × ℕ). content m e.0 e.1) pairs) ≡ held_here read n p (pair_at pairs p)
@@ -172,15 +172,15 @@ module _ (read : Blocks) (n p : ℕ) where
   other m apart (e ∷ es) = ap (λ (t : Bool). cond (t && e.0 == p) (Some (record { number = m; place = e.0; block = e.1; bytes = read e.1 })) (contents (map (λ (e : ℕ × ℕ). content m e.0 e.1) es))) apart ∙ other m apart es
 
   contents_append : (xs ys : List Met) → contents (xs ++ ys) ≡ or_else (contents xs) (contents ys)
-  contents_append xs ys = ap (λ (hs : List Held). found_at hs n p) (held_append (content_held read) xs ys) ∙ found_append (all_held (content_held read) xs) (all_held (content_held read) ys) n p
+  contents_append xs ys = ap (λ (hs : List SeenBlock). found_at hs n p) (held_append (content_held read) xs ys) ∙ found_append (all_held (content_held read) xs) (all_held (content_held read) ys) n p
 
   none_indexes : (bs : List ℕ) → contents (map index bs) ≡ None
   unfolding found_at
-  none_indexes bs = ap (λ (hs : List Held). found_at hs n p) (no_contents read bs)
+  none_indexes bs = ap (λ (hs : List SeenBlock). found_at hs n p) (no_contents read bs)
 
   none_pages : (m : ℕ) (pairs : List (ℕ × ℕ)) → contents (map (λ (e : ℕ × ℕ). page m e.0 e.1) pairs) ≡ None
   unfolding found_at
-  none_pages m pairs = ap (λ (hs : List Held). found_at hs n p) (page_contents read m pairs)
+  none_pages m pairs = ap (λ (hs : List SeenBlock). found_at hs n p) (page_contents read m pairs)
 
   node_own : (node : ℕ × Inode) → nat_eq node.0 n ≡ true → contents (node_trees read node) ≡ held_here read n p (pair_at (file_pairs read node.1) p)
   unfolding found_at pair_at or_else

@@ -29,7 +29,7 @@ use Rattle.image_model.specs.Walk.{is_used, walk, nodes_at, blocks_inodes}
 use Rattle.image_model.specs.Findings.{free_in}
 use Rattle.image_model.specs.Nodes.{is_bad_directory, AllBelow, blocks_in_node}
 use Rattle.image_model.specs.Planned.{node_trees}
-use Rattle.image_model.specs.Seen.{Seen, Held, seen_from, all_held, content_held, page_held}
+use Rattle.image_model.specs.Seen.{Seen, SeenBlock, seen_from, all_held, content_held, page_held}
 use Rattle.image_model.specs.Slots.{held_at, inode_of}
 use Rattle.image_model.specs.Sound.{IsNamed, AllGood}
 use Rattle.image_model.specs.Stands.{Shows, node_of, bytes_from, spot_of}
@@ -44,13 +44,13 @@ use Rattle.image_model.proofs.TreeNodes.{keys, Leads, all_lead, keys_distinct, k
 pub held_length : (bytes : List ℕ) → length (take 4096 (bytes ++ replicate 4096 0)) ≡ 4096
 held_length bytes = omega (arith, length-take 4096 (bytes ++ replicate 4096 0), length-append bytes (replicate 4096 0), length-replicate {A = ℕ} 4096 0)
 
-pub bytes_length : (held : List Held) (n place k : ℕ) → length (bytes_from held n place k) ≡ 4096 * k
+pub bytes_length : (held : List SeenBlock) (n place k : ℕ) → length (bytes_from held n place k) ≡ 4096 * k
 bytes_length held n place zero = refl
 bytes_length held n place (suc k) =
     let here = take 4096 (held_at held n place ++ replicate 4096 0) in
     omega (arith, length-append here (bytes_from held n (place + 1) k), held_length (held_at held n place), bytes_length held n (place + 1) k)
 
-pub file_length : (held : List Held) (n size : ℕ) → length (take size (bytes_from held n 0 (blocks_of size))) ≡ size
+pub file_length : (held : List SeenBlock) (n size : ℕ) → length (take size (bytes_from held n 0 (blocks_of size))) ≡ size
 file_length held n size = omega (arith, length-take size (bytes_from held n 0 (blocks_of size)), bytes_length held n 0 (blocks_of size))
 
 -- ---- a directory's places are all that it has

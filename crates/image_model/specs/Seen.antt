@@ -20,25 +20,25 @@ abbrev pub counts_from : Blocks → List ℕ → ℕ → ℕ → List ℕ
 counts_from read homes i zero = []
 counts_from read homes i (suc n) = words (read (home_in homes i)) ++ counts_from read homes (i + 1) n
 
--- the bytes of a directory's or a file's block
-pub record Held : Type 0 where
+-- a block of a directory or a file that is seen, with its bytes
+pub record SeenBlock : Type 0 where
   pub number : ℕ
   pub place : ℕ
   pub block : ℕ
   pub bytes : List ℕ
 
 -- a directory's block that is met, with its bytes
-abbrev pub page_held : Blocks → Met → List Held
+abbrev pub page_held : Blocks → Met → List SeenBlock
 page_held read (page n place b) = record { number = n; place = place; block = b; bytes = read b } ∷ []
 page_held read other = []
 
 -- a file's block that is met, with its bytes
-abbrev pub content_held : Blocks → Met → List Held
+abbrev pub content_held : Blocks → Met → List SeenBlock
 content_held read (content n place b) = record { number = n; place = place; block = b; bytes = read b } ∷ []
 content_held read other = []
 
 -- of all that is met
-abbrev pub all_held : (Met → List Held) → List Met → List Held
+abbrev pub all_held : (Met → List SeenBlock) → List Met → List SeenBlock
 all_held f [] = []
 all_held f (m ∷ ms) = f m ++ all_held f ms
 
@@ -49,9 +49,9 @@ pub record Seen : Type 0 where
   -- the used inodes with their numbers
   pub nodes : List (ℕ × Inode)
   -- the blocks of directories
-  pub pages : List Held
+  pub pages : List SeenBlock
   -- the blocks of files
-  pub contents : List Held
+  pub contents : List SeenBlock
   -- the kept count of each block
   pub kept : List ℕ
 

@@ -17,7 +17,7 @@ use Rattle.volume_model.specs.Machine.{Stored}
 use Rattle.volume_model.specs.Places.{Spot}
 use Rattle.volume_model.specs.Space.{free_blocks}
 use Rattle.image_model.specs.Slots.{held_at, inode_of, number_along}
-use Rattle.image_model.specs.Seen.{Seen, Held, seen}
+use Rattle.image_model.specs.Seen.{Seen, SeenBlock, seen}
 use Rattle.image_model.specs.Sound.{IsSound}
 
 -- the layout that the root says
@@ -35,7 +35,7 @@ used_in image = (root_of_image image).log_used
 -- ---- the tree
 
 -- the bytes of so many places from one on, with zeros in holes
-abbrev pub bytes_from : List Held → ℕ → ℕ → ℕ → List ℕ
+abbrev pub bytes_from : List SeenBlock → ℕ → ℕ → ℕ → List ℕ
 bytes_from held n place zero = []
 bytes_from held n place (suc k) = take 4096 (held_at held n place ++ replicate 4096 0) ++ bytes_from held n (place + 1) k
 
@@ -50,7 +50,7 @@ abbrev pub node_along : Seen → Path → Option Node
 node_along s path = option_and_then (λ n. node_of s n (inode_of s.nodes n)) (number_along s 1 path)
 
 -- a file's place, and its block
-abbrev pub spot_of : Held → Spot × ℕ
+abbrev pub spot_of : SeenBlock → Spot × ℕ
 spot_of h = ((h.number, h.place), h.block)
 
 -- What is seen has this tree and these places.
