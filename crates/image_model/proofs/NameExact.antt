@@ -20,7 +20,7 @@ use Rattle.dir_slots.specs.Slots.{number_in}
 use Rattle.tree_model.specs.Path.{Path, name_eq}
 use Rattle.image_model.specs.declared.finding.Finding.TheVariants.{NotATree}
 use Rattle.image_model.proofs.Entries.{Entry, is_of, entry_at, leads, times_named, entries_in, entries_of}
-use Rattle.image_model.specs.Nodes.{has_twin, is_entry_name, number_named, names_of, reached_in, is_lost, or_behind, lost_finding, tree_finding}
+use Rattle.image_model.specs.Nodes.{has_twin, is_entry_name, number_named, numbers_named, reached_in, is_lost, or_behind, lost_finding, tree_finding}
 use Rattle.image_model.specs.Seen.{Seen, seen_from}
 use Rattle.image_model.specs.Slots.{slots_of, inode_of, number_along}
 use Rattle.image_model.specs.Sound.{IsSound}
@@ -452,12 +452,12 @@ module _ (read : Blocks) (at : ℕ) (homes : List ℕ) (count : ℕ) (g : Layout
         || (is_used (inode_of nodes n) && not (list_any (λ m. m == n) (reached_in s (length nodes))))) ≡ false
     not_lost = none_of _ _ _ _ (not_root (n == 1) refl) (not_unused (is_used (inode_of nodes n)) (nat_lt 0 times) refl refl) (not_twice (is_used (inode_of nodes n)) (nat_lt 1 n) refl refl) (not_apart (is_used (inode_of nodes n)) refl)
 
-  here_not_lost : (n : ℕ) → is_lost s (names_of s nodes) (reached_in s (length nodes)) n ≡ false
-  here_not_lost n = not_lost n (count_by (λ m. m == n) (names_of s nodes)) (ap (count_by (λ m. m == n)) (names_are s nodes) ∙ times_mapped es n)
+  here_not_lost : (n : ℕ) → is_lost s (numbers_named s nodes) (reached_in s (length nodes)) n ≡ false
+  here_not_lost n = not_lost n (count_by (λ m. m == n) (numbers_named s nodes)) (ap (count_by (λ m. m == n)) (names_are s nodes) ∙ times_mapped es n)
 
-  none_from : (n k : ℕ) → lost_finding s (names_of s nodes) (reached_in s (length nodes)) n k ≡ None
+  none_from : (n k : ℕ) → lost_finding s (numbers_named s nodes) (reached_in s (length nodes)) n k ≡ None
   none_from n zero = refl
-  none_from n (suc k) = ap (λ (t : Bool). or_behind t (NotATree n) (λ _. lost_finding s (names_of s nodes) (reached_in s (length nodes)) (n + 1) k)) (here_not_lost n) ∙ none_from (n + 1) k
+  none_from n (suc k) = ap (λ (t : Bool). or_behind t (NotATree n) (λ _. lost_finding s (numbers_named s nodes) (reached_in s (length nodes)) (n + 1) k)) (here_not_lost n) ∙ none_from (n + 1) k
 
   pub none_lost : tree_finding s ≡ None
   unfolding tree_finding

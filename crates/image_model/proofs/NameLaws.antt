@@ -14,7 +14,7 @@ use Rattle.tree_model.specs.Path.{Path}
 use Rattle.image_model.specs.declared.finding.Finding.TheVariants.{NotATree}
 use Rattle.image_model.proofs.Entries.{entry_at, leads, times_named, NamesOnce, entries_of}
 use Rattle.image_model.specs.Findings.{walk_finding, mixed_finding, body_finding}
-use Rattle.image_model.specs.Nodes.{number_named, names_of, reached_in, is_lost, or_behind, lost_finding, tail_finding, directory_finding, tree_finding}
+use Rattle.image_model.specs.Nodes.{number_named, numbers_named, reached_in, is_lost, or_behind, lost_finding, tail_finding, directory_finding, tree_finding}
 use Rattle.image_model.specs.Seen.{Seen, seen, seen_from}
 use Rattle.image_model.specs.Slots.{slots_of, inode_of, number_along}
 use Rattle.image_model.specs.Sound.{IsNamed, IsSound}
@@ -108,11 +108,11 @@ module _ (read : Blocks) (at : ℕ) (homes : List ℕ) (count : ℕ) (g : Layout
   told : (n : ℕ) → 1 ≤ n → n ≤ 65535 → NotLost (is_used (inode_of nodes n)) n (times_named (entries_of s nodes) n) reached
   unfolding tree_finding
   told n low high =
-      let is = lost_none s (names_of s nodes) reached 1 65535 tree_none (n - 1) (omega (arith, low, high)) in
+      let is = lost_none s (numbers_named s nodes) reached 1 65535 tree_none (n - 1) (omega (arith, low, high)) in
       let e : 1 + (n - 1) ≡ n = omega (arith, low) in
-      let here : is_lost s (names_of s nodes) reached n ≡ false = subst (λ (k : ℕ). is_lost s (names_of s nodes) reached k ≡ false) e is in
-      let times : count_by (λ m. m == n) (names_of s nodes) ≡ times_named (entries_of s nodes) n = ap (count_by (λ m. m == n)) (names_are s nodes) ∙ times_mapped (entries_of s nodes) n in
-      subst (λ (k : ℕ). NotLost (is_used (inode_of nodes n)) n k reached) times (not_lost (is_used (inode_of nodes n)) n (count_by (λ m. m == n) (names_of s nodes)) reached here)
+      let here : is_lost s (numbers_named s nodes) reached n ≡ false = subst (λ (k : ℕ). is_lost s (numbers_named s nodes) reached k ≡ false) e is in
+      let times : count_by (λ m. m == n) (numbers_named s nodes) ≡ times_named (entries_of s nodes) n = ap (count_by (λ m. m == n)) (names_are s nodes) ∙ times_mapped (entries_of s nodes) n in
+      subst (λ (k : ℕ). NotLost (is_used (inode_of nodes n)) n k reached) times (not_lost (is_used (inode_of nodes n)) n (count_by (λ m. m == n) (numbers_named s nodes)) reached here)
 
   names_once : NamesOnce (entries_of s nodes)
   names_once = record {

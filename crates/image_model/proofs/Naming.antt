@@ -18,7 +18,7 @@ use Rattle.dir_slots.specs.Slots.{number_in}
 use Rattle.tree_model.specs.Path.{Path, name_eq}
 use Rattle.image_model.proofs.Entries.{Entry, is_of, entry_at, leads, times_named, NamesOnce, entries_in, entries_of}
 use Rattle.image_model.specs.Met.{Met, index}
-use Rattle.image_model.specs.Nodes.{has_twin, is_bad_directory, is_entry_name, is_slot_spelled, number_named, names_of}
+use Rattle.image_model.specs.Nodes.{has_twin, is_bad_directory, is_entry_name, is_slot_spelled, number_named, numbers_named}
 use Rattle.image_model.specs.Planned.{node_trees}
 use Rattle.image_model.specs.Seen.{Seen, SeenBlock, seen_from, all_held, page_held}
 use Rattle.image_model.specs.Slots.{slot_pieces, slots_of, slots_from, inode_of, number_along}
@@ -132,7 +132,7 @@ names_in d [] = refl
 names_in d (slots.Unused ∷ ss) = names_in d ss
 names_in d (slots.Entry number name ∷ ss) = ap (λ (ns : List ℕ). number ∷ ns) (names_in d ss)
 
-pub names_are : (s : Seen) (nodes : List (ℕ × Inode)) → names_of s nodes ≡ map (λ (e : Entry). e.number) (entries_of s nodes)
+pub names_are : (s : Seen) (nodes : List (ℕ × Inode)) → numbers_named s nodes ≡ map (λ (e : Entry). e.number) (entries_of s nodes)
 names_are s [] = refl
 names_are s (node ∷ nodes) =
     flat_map-cons (λ (node : ℕ × Inode). filter_map number_named (slots_of s node.0)) node nodes
