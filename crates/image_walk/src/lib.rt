@@ -1,0 +1,19 @@
+//! Walks over all metadata of an image, and says what it reaches or what is wrong with it first.
+#![tactic(auto)]
+
+mod fault;
+//mod index;
+//mod inodes;
+mod marks;
+//mod mixed;
+//mod reached;
+//mod reading;
+//mod root;
+//mod trees;
+//mod walked;
+
+pub use fault::WalkFault;
+pub use marks::{Mark, Marks};
+//pub use mixed::mixed;
+//pub use reached::{LastBlock, PagePlace};
+//pub use walked::{Walked, walk};
