@@ -11,6 +11,7 @@ use Rattle.image_walk.specs.declared.fault.WalkFault.{WalkFault}
 use Rattle.image_walk.specs.declared.fault.WalkFault.TheVariants.{Found, Device, OutOfMemory}
 use Rattle.image_walk.specs.declared.marks.Mark.{Mark}
 use Rattle.image_walk.specs.Marks.{SaysUpTo}
+use Rattle.image_walk.specs.Cause.{HasWalkCause, IsOwn}
 use Rattle.image_walk.specs.Going.{reached_after, Goes, Finds, EndsBy, Walks, Part}
 
 then_assoc : (a b c : Option Finding) → (a then (b then c)) ≡ ((a then b) then c)
@@ -61,6 +62,17 @@ ends_front g a xs ys OutOfMemory ends = tt
 pub walks_err : {T : Type 0} (g : Layout) (a b : List Mark) (ms : List Met) (r : Result T WalkFault) (fault : WalkFault) → IsErrAnd r (λ f. f ≡ fault) → EndsBy g a ms fault → Walks g a b ms r
 walks_err g a b ms (Ok value) fault same ends = absurd same
 walks_err g a b ms (Err f) fault same ends = subst (EndsBy g a ms) (sym same) ends
+
+-- a fault of the device ends a walk over anything
+pub walks_device : {T : Type 0} (g : Layout) (a b : List Mark) (ms : List Met) (r : Result T WalkFault) → IsErrAnd r (λ f. f ≡ Device) → Walks g a b ms r
+walks_device g a b ms r same = walks_err g a b ms r Device same tt
+
+-- a fault of memory or of the image that is passed on
+pub cause_passed : {T : Type 0} (old now : ℕ) (r : Result T WalkFault) (fault : WalkFault) → now ≡ old → IsErrAnd r (λ f. f ≡ fault) → IsOwn fault → HasWalkCause old now r
+cause_passed old now (Ok value) fault e same own = absurd same
+cause_passed old now (Err (Found f)) fault e same own = e
+cause_passed old now (Err Device) fault e same own = absurd (subst IsOwn (sym same) own)
+cause_passed old now (Err OutOfMemory) fault e same own = e
 
 -- ---- loops
 

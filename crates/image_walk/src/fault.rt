@@ -1,4 +1,5 @@
 //! Why a walk ends early.
+use disk_model::DiskFault;
 use image_model::Finding;
 use std::alloc::AllocError;
 use thiserror::Error;
@@ -23,5 +24,16 @@ impl From<AllocError> for WalkFault {
 
     fn from(_: AllocError) -> WalkFault {
         WalkFault::OutOfMemory
+    }
+}
+
+impl From<DiskFault> for WalkFault {
+    ghost use Rattle.std.specs.Prelude.{◌≡◌};
+    ghost use Rattle.image_walk.specs.declared.fault.WalkFault.TheVariants.{Device};
+
+    ghost from_gives = { λ _ fault. fault ≡ Device };
+
+    fn from(_: DiskFault) -> WalkFault {
+        WalkFault::Device
     }
 }

@@ -2,12 +2,12 @@
 #![tactic(auto)]
 
 mod fault;
-//mod index;
+mod index;
 //mod inodes;
 mod marks;
 //mod mixed;
 //mod reached;
-//mod reading;
+mod reading;
 //mod root;
 //mod trees;
 //mod walked;

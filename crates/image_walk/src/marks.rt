@@ -6,6 +6,7 @@ ghost use Rattle.block_format.specs.Index.{IsInArea};
 ghost use Rattle.image_model.specs.Met.{index, page, content};
 ghost use Rattle.image_walk.specs.Marks.{no_mark, mark_of, as_metadata, as_content};
 ghost use Rattle.image_walk.specs.Going.{Walks};
+ghost use Rattle.image_walk.specs.Cause.{IsNoDevice};
 
 use crate::WalkFault;
 use image_model::Finding;
@@ -98,6 +99,7 @@ impl Marks {
         requires { length self.old ≡ 1024 * count_blocks (layout_of g.now) }
         ensures of_index { Walks (layout_of g.now) self.old self.new (index ptr ∷ []) result }
         ensures of_page { (n place : ℕ) → Walks (layout_of g.now) self.old self.new (page n place ptr ∷ []) result }
+        ensures cause { IsNoDevice result }
         ensures within { OnOk result (IsInArea (layout_of g.now) ptr) }
     {
         if ptr < g.area_start() || ptr >= g.blocks() {
@@ -114,7 +116,8 @@ impl Marks {
     /// A pointer to a file's block.
     pub(crate) fn meet_content(&mut self, g: &Geometry, ptr: BlockNo) -> Result<(), WalkFault>
         requires { length self.old ≡ 1024 * count_blocks (layout_of g.now) }
-        ensures { (n place : ℕ) → Walks (layout_of g.now) self.old self.new (content n place ptr ∷ []) result }
+        ensures walked { (n place : ℕ) → Walks (layout_of g.now) self.old self.new (content n place ptr ∷ []) result }
+        ensures cause { IsNoDevice result }
     {
         if ptr < g.area_start() || ptr >= g.blocks() {
             return Err(WalkFault::Found(Finding::BadPointer(ptr)));
