@@ -1,3 +1,5 @@
 pub mod Cause
 pub mod Going
+pub mod Kept
 pub mod Marks
+pub mod Trees

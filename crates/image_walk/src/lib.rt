@@ -6,14 +6,14 @@ mod index;
 //mod inodes;
 mod marks;
 //mod mixed;
-//mod reached;
+mod reached;
 mod reading;
 //mod root;
-//mod trees;
+mod trees;
 //mod walked;
 
 pub use fault::WalkFault;
 pub use marks::{Mark, Marks};
 //pub use mixed::mixed;
-//pub use reached::{LastBlock, PagePlace};
+pub use reached::{LastBlock, PagePlace};
 //pub use walked::{Walked, walk};
