@@ -1,3 +1,4 @@
 pub mod GoingLaws
 pub mod MarkLaws
+pub mod NodeLaws
 pub mod TreeLaws
