@@ -1,6 +1,6 @@
 -- The blocks of nodes, part by part.
 use Rattle.std.proofs.Common.{◌≡◌, ◌<◌, ℕ, zero, suc, ◌+◌, ◌-◌, ◌*◌, Bool, true, false, cond, List, [], ◌∷◌, ◌++◌, length, drop, get_or, refl, sym, ap, subst, ◌∙◌, arith}
-use Rattle.std.specs.Prelude.{◌==◌, nat_lt, Result, Ok, Err, slice_index_or}
+use Rattle.std.specs.Prelude.{◌==◌, nat_lt, Result, Ok, Err, Some}
 use Rattle.std.specs.List.{list_all, flat_map}
 use Rattle.std.proofs.lemmas.Bool.{eq-eqb}
 use Rattle.std.proofs.lemmas.Bool.Decides.{nat_tests}
@@ -11,6 +11,8 @@ use Rattle.block_format.specs.declared.inode.Inode.{Inode}
 use Rattle.block_tree.specs.Tree.{Blocks, index_at}
 use Rattle.image_model.specs.Met.{Met, index, page, content, past, empty}
 use Rattle.image_model.specs.Walk.{met_at, empty_met, empty_at, places_met, leaf_met, tops_met, leaves_met, tree_met, node_met}
+use Rattle.image_model.specs.Findings.{walk_finding}
+use Rattle.image_model.specs.declared.finding.Finding.TheVariants.{BadPointer}
 use Rattle.image_walk.specs.declared.fault.WalkFault.{WalkFault}
 use Rattle.image_walk.specs.declared.reached.LastBlock.{LastBlock}
 use Rattle.image_walk.specs.declared.reached.Owner.{Owner}
@@ -93,6 +95,10 @@ no_lasts_empty blocks false b = refl
 
 pub passes_empty : (g : Layout) (a : Reached) (blocks b : ℕ) (ptrs : List ℕ) → Goes g a.marks a.marks (empty_met b ptrs) → Passes g a a (empty_met b ptrs) (lasts_of blocks (empty_met b ptrs))
 passes_empty g a blocks b ptrs goes = passes_marks g a a blocks (empty_met b ptrs) goes refl refl (no_pages_empty (list_all (λ p. p == 0) ptrs) b) (no_lasts_empty blocks (list_all (λ p. p == 0) ptrs) b)
+
+pub empty_found : (g : Layout) (reached : List ℕ) (t : Bool) (b : ℕ) → t ≡ true → walk_finding g reached (cond t (empty b ∷ []) []) ≡ Some (BadPointer b)
+empty_found g reached true b e = refl
+empty_found g reached false b e = cc
 
 -- ---- a leaf
 

@@ -1,6 +1,6 @@
 //! The blocks of nodes.
-ghost use Rattle.std.specs.Prelude.{◌≡◌, ◌≤◌, ◌<◌, ◌+◌, ◌*◌, ◌++◌, ℕ, List, OnOk, IsTrue, length, slice_index, drop};
-ghost use Rattle.std.specs.List.{flat_map};
+ghost use Rattle.std.specs.Prelude.{◌≡◌, ◌≤◌, ◌<◌, ◌+◌, ◌*◌, ◌==◌, ◌++◌, ℕ, List, OnOk, IsTrue, length, slice_index, drop};
+ghost use Rattle.std.specs.List.{flat_map, list_all};
 ghost use Rattle.vol_numbers.specs.Geometry.{layout_of};
 ghost use Rattle.vol_numbers.specs.Layout.{Layout, count_blocks};
 ghost use Rattle.disk_model.specs.Past.{Adds};
@@ -194,10 +194,16 @@ fn meet_empty(ptrs: &[BlockNo], at: BlockNo) -> Result<(), WalkFault>
     ensures walked { (g : Layout) (marks : List Mark) → Walks g marks marks (empty_met at ptrs.now) result }
     ensures cause { IsNoDevice result }
 {
-    if ptrs.iter().all(|ptr| *ptr == 0) {
+    if are_zero(ptrs) {
         return Err(WalkFault::Found(Finding::BadPointer(at)));
     }
     Ok(())
+}
+
+fn are_zero(ptrs: &[BlockNo]) -> bool
+    ensures { result ≡ list_all (λ p. p == 0) ptrs.now }
+{
+    ptrs.iter().all(|ptr| *ptr == 0)
 }
 
 /// The pointers of a top index, each of which is of 1,024 places.
