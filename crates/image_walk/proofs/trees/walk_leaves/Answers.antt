@@ -1,7 +1,7 @@
-use Rattle.std.proofs.Common.{◌≡◌, ◌+◌, ◌*◌, ◌∙◌, ℕ, List, ap, sym, subst, arith, drop, get_or}
+use Rattle.std.proofs.Common.{◌≡◌, ◌+◌, ◌*◌, ◌∙◌, ℕ, List, refl, subst, arith, drop, get_or}
 use Rattle.vol_numbers.specs.Geometry.{layout_of}
 use Rattle.disk_model.specs.Disk.{State}
-use Rattle.disk_model.proofs.Moments.{adds_read}
+use Rattle.disk_model.proofs.Moments.{adds_none, adds_read}
 use Rattle.block_tree.specs.Tree.{blocks_in}
 use Rattle.image_model.specs.Met.{Met}
 use Rattle.image_model.specs.Walk.{leaf_met, leaves_met}
@@ -43,3 +43,13 @@ loop-k-preserved g c =
       fixed = c.in_ok-walk_leaf.ensures.fixed ∙ inv.fixed;
       faults = c.in_ok-walk_leaf.ensures.cause ∙ inv.faults;
     }
+
+pub loop-k-init : goal.loop-k-init
+loop-k-init g c = record {
+  stretch = λ tells. stretch_start _ _ _ _;
+  long = c.requires.marks;
+  same = λ tells. refl;
+  moments = λ tells. adds_none _ _;
+  fixed = refl;
+  faults = refl;
+}
