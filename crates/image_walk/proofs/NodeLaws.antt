@@ -8,6 +8,8 @@ use Rattle.std.proofs.lemmas.List.{drop_more}
 use Rattle.std.proofs.lemmas.List.Concat.{flat_map-cons}
 use Rattle.vol_numbers.specs.Layout.{Layout}
 use Rattle.block_format.specs.declared.inode.Inode.{Inode}
+use Rattle.block_format.specs.Inode.{blocks_of}
+use Rattle.block_format.specs.declared.inode.Inode.TheVariants.{Unused, File, Directory}
 use Rattle.block_tree.specs.Tree.{Blocks, index_at}
 use Rattle.image_model.specs.Met.{Met, index, page, content, past, empty}
 use Rattle.image_model.specs.Walk.{met_at, empty_met, empty_at, places_met, leaf_met, tops_met, leaves_met, tree_met, node_met}
@@ -46,17 +48,16 @@ leaves_next read o k tops lt =
     ap (leaves_met read (owner_met o) o.blocks (1024 * k)) (drop_more tops k 0 lt)
     ∙ ap (λ (n : ℕ). leaf_met read (owner_met o) o.blocks (1024 * k) (get_or tops k 0) ++ leaves_met read (owner_met o) o.blocks n (drop (k + 1) tops)) e
 
-pub nodes_next : (read : Blocks) (node : ℕ × Inode) (nodes : List (ℕ × Inode)) (i : ℕ) → i < length nodes → node ≡ get_or nodes i node
-    → flat_map (node_met read) (drop i nodes) ≡ node_met read node ++ flat_map (node_met read) (drop (i + 1) nodes)
-nodes_next read node nodes i lt e =
-    ap (flat_map (node_met read)) (drop_more nodes i node lt)
-    ∙ (flat_map-cons (node_met read) (get_or nodes i node) (drop (i + 1) nodes) ∙ ap (λ (x : ℕ × Inode). node_met read x ++ flat_map (node_met read) (drop (i + 1) nodes)) (sym e))
+-- what is read behind the last node
+abbrev pub no_node : ℕ × Inode
+no_node = (0, Unused)
 
-pub lasts_next : (read : Blocks) (node : ℕ × Inode) (nodes : List (ℕ × Inode)) (i : ℕ) → i < length nodes → node ≡ get_or nodes i node
-    → all_lasts read (drop i nodes) ≡ node_lasts read node ++ all_lasts read (drop (i + 1) nodes)
-lasts_next read node nodes i lt e =
-    ap (all_lasts read) (drop_more nodes i node lt)
-    ∙ (flat_map-cons (node_lasts read) (get_or nodes i node) (drop (i + 1) nodes) ∙ ap (λ (x : ℕ × Inode). node_lasts read x ++ all_lasts read (drop (i + 1) nodes)) (sym e))
+pub nodes_next : (read : Blocks) (nodes : List (ℕ × Inode)) (i : ℕ) → i < length nodes
+    → flat_map (node_met read) (drop i nodes) ≡ node_met read (get_or nodes i no_node) ++ flat_map (node_met read) (drop (i + 1) nodes)
+nodes_next read nodes i lt = ap (flat_map (node_met read)) (drop_more nodes i no_node lt) ∙ flat_map-cons (node_met read) (get_or nodes i no_node) (drop (i + 1) nodes)
+
+pub lasts_next : (read : Blocks) (nodes : List (ℕ × Inode)) (i : ℕ) → i < length nodes → all_lasts read (drop i nodes) ≡ node_lasts read (get_or nodes i no_node) ++ all_lasts read (drop (i + 1) nodes)
+lasts_next read nodes i lt = ap (all_lasts read) (drop_more nodes i no_node lt) ∙ flat_map-cons (node_lasts read) (get_or nodes i no_node) (drop (i + 1) nodes)
 
 -- ---- index blocks alone: no pages, no last blocks
 
@@ -194,3 +195,19 @@ module _ (g : Layout) (o : Owner) (read : Blocks) where
   tree_ends a height ptr fault not_zero ends =
       let e : suc (height - 1) ≡ height = omega (arith, not_zero) in
       subst (λ (h : ℕ). EndsBy g a.marks (tree_met read (owner_met o) o.blocks h ptr) fault) e (index_first a (height - 1) ptr fault ends)
+
+-- ---- a node
+
+pub file_over : {T : Type 0} (g : Layout) (read : Blocks) (a c : Reached) (node : ℕ × Inode) (size height ptr blocks : ℕ) (r : Result T WalkFault) → node.1 ≡ File size height ptr → blocks ≡ blocks_of size
+    → PassesOver g a c (tree_met read (content node.0) blocks height ptr) (lasts_of blocks (tree_met read (content node.0) blocks height ptr)) r
+    → PassesOver g a c (node_met read node) (node_lasts read node) r
+file_over g read a c node size height ptr blocks r is many over =
+    subst (λ (x : Inode). PassesOver g a c (node_met read (node.0, x)) (node_lasts read (node.0, x)) r) (sym is)
+    (subst (λ (n : ℕ). let ms : List Met = tree_met read (content node.0) n height ptr in PassesOver g a c ms (lasts_of n ms) r) many over)
+
+pub directory_over : {T : Type 0} (g : Layout) (read : Blocks) (a c : Reached) (node : ℕ × Inode) (width height ptr blocks : ℕ) (r : Result T WalkFault) → node.1 ≡ Directory width height ptr → blocks ≡ blocks_of (256 * width)
+    → PassesOver g a c (tree_met read (page node.0) blocks height ptr) (lasts_of blocks (tree_met read (page node.0) blocks height ptr)) r
+    → PassesOver g a c (node_met read node) (node_lasts read node) r
+directory_over g read a c node width height ptr blocks r is many over =
+    subst (λ (x : Inode). PassesOver g a c (node_met read (node.0, x)) (node_lasts read (node.0, x)) r) (sym is)
+    (subst (λ (n : ℕ). let ms : List Met = tree_met read (page node.0) n height ptr in PassesOver g a c ms (lasts_of n ms) r) many over)
