@@ -1,4 +1,6 @@
 pub mod GoingLaws
+pub mod InodeLaws
 pub mod MarkLaws
 pub mod NodeLaws
+pub mod StrayLaws
 pub mod TreeLaws

@@ -125,6 +125,29 @@ module _ (marks : List Mark) (before : List Met) (p : ℕ) (m : Met) (new : Mark
         (λ ne. s.pointers b ∙ (min_same (pointers_to b before) ∙ ap (λ (n : ℕ). min n (2 ^ 32 - 1)) (sym (points_append b before m ∙ ap (λ (t : Bool). pointers_to b before + cond t 1 0) (points_there b ne)))));
   }
 
+-- what is no pointer changes no mark
+pub says_silent : (marks : List Mark) (before : List Met) (m : Met) → ((b : ℕ) → is_metadata_at b m ≡ false) → ((b : ℕ) → is_content_at b m ≡ false) → ((b : ℕ) → points_at b m ≡ false)
+    → SaysUpTo marks before → SaysUpTo marks (before ++ (m ∷ []))
+says_silent marks before m meta file points s = record {
+  metadata = λ b. s.metadata b ∙ (or_false (list_any (is_metadata_at b) before) ∙ (ap (λ (t : Bool). list_any (is_metadata_at b) before || t) (sym (meta b)) ∙ sym (any_append (is_metadata_at b) before m)));
+  content = λ b. s.content b ∙ (or_false (list_any (is_content_at b) before) ∙ (ap (λ (t : Bool). list_any (is_content_at b) before || t) (sym (file b)) ∙ sym (any_append (is_content_at b) before m)));
+  pointers = λ b. s.pointers b ∙ (min_same (pointers_to b before) ∙ ap (λ (n : ℕ). min n (2 ^ 32 - 1)) (sym (points_append b before m ∙ ap (λ (t : Bool). pointers_to b before + cond t 1 0) (points b))));
+}
+
+-- a stray pointer that leads nowhere
+pub goes_stray : (g : Layout) (marks : List Mark) (n p : ℕ) → is_in_area g p ≡ false → Goes g marks marks (stray n p ∷ [])
+goes_stray g marks n p outside = record {
+  long = refl;
+  says = λ before s. says_silent marks before (stray n p) (λ b. refl) (λ b. refl) (λ b. refl) s;
+  fine = λ before s. ap (λ (t : Bool). bad_if t (BadInode n) then None) outside;
+}
+
+pub ends_stray : (g : Layout) (marks : List Mark) (n p : ℕ) → is_in_area g p ≡ true → EndsBy g marks (stray n p ∷ []) (Found (BadInode n))
+ends_stray g marks n p inside = λ before s. ap (λ (t : Bool). bad_if t (BadInode n) then None) inside
+
+pub ends_inode : (g : Layout) (marks : List Mark) (n : ℕ) → EndsBy g marks (not_inode n ∷ []) (Found (BadInode n))
+ends_inode g marks n = λ before s. refl
+
 test_same : (p b : ℕ) → b ≡ p → (p == b) ≡ true
 test_same p b e = eq-eqb p b (sym e)
 

@@ -40,3 +40,7 @@ pub record Part (g : Layout) (old now : List Mark) (whole rest : List Met) : Typ
   pub front : List Met
   pub split : front ++ rest ≡ whole
   pub goes : Goes g old now front
+
+-- the same of what is no pointer: no mark changes
+abbrev pub Checks : {T : Type 0} → Layout → List Met → Result T WalkFault → Type 0
+Checks g ms result = (marks : List Mark) → Walks g marks marks ms result

@@ -3,11 +3,12 @@
 
 mod fault;
 mod index;
-//mod inodes;
+mod inodes;
 mod marks;
 //mod mixed;
 mod reached;
 mod reading;
+mod stray;
 //mod root;
 mod trees;
 //mod walked;
