@@ -15,9 +15,12 @@ use Rattle.image_model.specs.Met.{Met, not_inode, stray}
 use Rattle.image_model.specs.Walk.{is_used, is_stray, is_good, is_pointer_wrong, bad_met, block_met, blocks_met, inodes_from, blocks_inodes, nodes_of}
 use Rattle.image_model.proofs.InodeWalk.{used_split}
 use Rattle.image_walk.specs.declared.marks.Mark.{Mark}
-use Rattle.image_walk.specs.Going.{Goes}
+use Rattle.image_model.specs.declared.finding.Finding.TheVariants.{BadInode}
+use Rattle.image_walk.specs.declared.fault.WalkFault.TheVariants.{Found}
+use Rattle.image_walk.specs.Going.{Goes, EndsBy}
 use Rattle.image_walk.specs.Inodes.{stray_at, block_at, inodes_at, Taken, Gathered}
-use Rattle.image_walk.proofs.GoingLaws.{goes_none, goes_then}
+use Rattle.image_walk.proofs.GoingLaws.{goes_none, goes_then, ends_then}
+use Rattle.image_walk.proofs.MarkLaws.{ends_inode}
 
 -- ---- one inode
 
@@ -171,6 +174,35 @@ block_used first inodes used = ap (λ (t : Bool). flat_map bad_met inodes ++ con
 pub block_unused : (first : ℕ) (inodes : List (ℕ × List ℕ)) → list_any (λ x. is_used (inode_in x.1)) inodes ≡ false → block_met first inodes ≡ flat_map bad_met inodes ++ (not_inode first ∷ [])
 block_unused first inodes used = ap (λ (t : Bool). flat_map bad_met inodes ++ cond t [] (not_inode first ∷ [])) used
 
+pub ends_unused : (g : Layout) (marks : List Mark) (first : ℕ) (inodes : List (ℕ × List ℕ)) → length (nodes_of inodes) ≡ 0 → Goes g marks marks (flat_map bad_met inodes) → EndsBy g marks (block_met first inodes) (Found (BadInode first))
+ends_unused g marks first inodes none goes =
+    subst (λ (ms : List Met). EndsBy g marks ms (Found (BadInode first))) (sym (block_unused first inodes (none_used inodes none)))
+    (ends_then g marks marks (flat_map bad_met inodes) (not_inode first ∷ []) (Found (BadInode first)) goes (ends_inode g marks first))
+
+pub goes_used : (g : Layout) (marks : List Mark) (first : ℕ) (inodes : List (ℕ × List ℕ)) → (length (nodes_of inodes) ≡ 0 → ⊥) → Goes g marks marks (flat_map bad_met inodes) → Goes g marks marks (block_met first inodes)
+goes_used g marks first inodes some goes = subst (Goes g marks marks) (sym (block_used first inodes (some_used inodes some))) goes
+
+-- how many nodes were added
+pub added_length : (old now more : List (ℕ × Inode)) → now ≡ old ++ more → length now ≡ length old + length more
+added_length old now more e = ap length e ∙ length-append old more
+
+-- a block that isn't there, and one that is
+pub block_none : (read : Blocks) (first at : ℕ) → at ≡ 0 → block_at read first at ≡ []
+block_none read first at e = ap (λ (t : Bool). cond t [] (block_met first (inodes_from 64 first (read at)))) (eq-eqb at 0 e)
+
+pub inodes_none : (read : Blocks) (first at : ℕ) → at ≡ 0 → inodes_at read first at ≡ []
+inodes_none read first at e = ap (λ (t : Bool). cond t [] (inodes_from 64 first (read at))) (eq-eqb at 0 e)
+
+pub block_some : (read : Blocks) (first at : ℕ) (bytes : List ℕ) → (at ≡ 0 → ⊥) → read at ≡ bytes → block_at read first at ≡ block_met first (inodes_from 64 first bytes)
+block_some read first at bytes some e =
+    let test : (at == 0) ≡ false = grind (arith, nat_tests) in
+    ap (λ (t : Bool). cond t [] (block_met first (inodes_from 64 first (read at)))) test ∙ ap (λ (b : List ℕ). block_met first (inodes_from 64 first b)) e
+
+pub inodes_some : (read : Blocks) (first at : ℕ) (bytes : List ℕ) → (at ≡ 0 → ⊥) → read at ≡ bytes → inodes_at read first at ≡ inodes_from 64 first bytes
+inodes_some read first at bytes some e =
+    let test : (at == 0) ≡ false = grind (arith, nat_tests) in
+    ap (λ (t : Bool). cond t [] (inodes_from 64 first (read at))) test ∙ ap (inodes_from 64 first) e
+
 -- ---- all inode blocks
 
 pub blocks_next : (read : Blocks) (k : ℕ) (entries : List ℕ) → k < length entries
@@ -201,4 +233,16 @@ gathered_next read entries k old now new lt so_far is =
 pub gathered_all : (read : Blocks) (entries : List ℕ) (k : ℕ) (old now : List (ℕ × Inode)) → length entries ≤ k → Gathered read entries k old now → now ≡ old ++ nodes_of (blocks_inodes read 0 entries)
 gathered_all read entries k old now le so_far =
     so_far.nodes ∙ ap (λ (xs : List (ℕ × List ℕ)). old ++ nodes_of xs)
-    (sym (append-nil so_far.front) ∙ (ap (λ (xs : List (ℕ × List ℕ)). so_far.front ++ xs) (sym (ap (blocks_inodes read (64 * k)) (drop_all entries k le))) ∙ so_far.split))
+    (sym (append-nil so_far.front) ∙ (ap (λ (xs : List (ℕ × List ℕ)). so_far.front ++ xs) (sym (ap (blocks_inodes read (64 * k)) (drop_all k entries le))) ∙ so_far.split))
+
+pub not_zero_used : (n : ℕ) (used : Bool) → (n ≡ 0 → ⊥) → (n == 0 && used) ≡ false
+not_zero_used n used some = let test : (n == 0) ≡ false = grind (arith, nat_tests) in ap (λ (t : Bool). t && used) test
+
+pub unused_number : (n : ℕ) (used : Bool) → used ≡ false → (n == 0 && used) ≡ false
+unused_number n used is = ap (λ (t : Bool). n == 0 && t) is ∙ and_false (n == 0)
+
+pub goes_good : (g : Layout) (marks : List Mark) (n : ℕ) (bytes : List ℕ) (inode : Inode) → inode_at bytes ≡ Some inode → (n == 0 && is_used inode) ≡ false → Goes g marks marks (bad_met (n, bytes))
+goes_good g marks n bytes inode is fine =
+    let tells = inode_tells bytes inode is in
+    let good : is_good (n, bytes) ≡ true = good_is n bytes false tells.0 (ap (λ (x : Inode). n == 0 && is_used x) tells.1 ∙ fine) in
+    subst (Goes g marks marks) (sym (bad_none n bytes good)) (goes_none g marks)

@@ -4,3 +4,4 @@ pub mod MarkLaws
 pub mod NodeLaws
 pub mod StrayLaws
 pub mod TreeLaws
+pub mod WholeLaws

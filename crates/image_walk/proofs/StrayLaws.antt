@@ -1,8 +1,9 @@
 -- Inodes of no bytes that have a pointer.
-use Rattle.std.proofs.Common.{◌≡◌, ◌<◌, ℕ, ◌+◌, ◌*◌, ◌/◌, ◌^◌, Bool, true, false, not, cond, List, [], ◌∷◌, ◌++◌, drop, replicate, refl, sym, ap, ◌∙◌, arith, lit<}
+use Rattle.std.proofs.Common.{◌≡◌, ◌<◌, ℕ, ◌+◌, ◌*◌, ◌/◌, ◌^◌, Bool, true, false, not, cond, List, [], ◌∷◌, ◌++◌, ◌-◌, length, take, drop, replicate, refl, sym, ap, ◌∙◌, arith, lit<}
 use Rattle.std.specs.Prelude.{◌==◌, ◌&&◌, bytes_eq, slice_index, Option, Some, None}
 use Rattle.std.proofs.lemmas.Bool.{eqb-true, eq-eqb}
 use Rattle.std.proofs.lemmas.Bool.Decides.{nat_tests}
+use Rattle.std.proofs.lemmas.List.{take_all, length-drop}
 use Rattle.std.proofs.lemmas.Slice.Eq.{bytes_eq-Decides}
 use Rattle.byteorder.specs.Endian.{little_bytes, little_number}
 use Rattle.byteorder.specs.Numbers.{little_number-reads_back}
@@ -29,6 +30,9 @@ module _ (b : List ℕ) where
 
   abbrev pub ptr_in : ℕ
   ptr_in = little_number 4 (drop 4 b)
+
+  pub ptr_read : little_number 4 (take (length b - 4) (drop 4 b)) ≡ ptr_in
+  ptr_read = ap (little_number 4) (take_all (length b - 4) (drop 4 b) (omega (arith, length-drop 4 b)))
 
   -- a file's, a directory's, or no node's
   by_kind : (t u : Bool) → (slice_index b 0 == 1) ≡ t → (slice_index b 0 == 2) ≡ u → inode_in b ≡ cond t (File size_in height_in ptr_in) (cond u (Directory (size_in / 256) height_in ptr_in) Unused)

@@ -4,3 +4,4 @@ pub mod Inodes
 pub mod Kept
 pub mod Marks
 pub mod Trees
+pub mod Walked

@@ -9,12 +9,12 @@ mod marks;
 mod reached;
 mod reading;
 mod stray;
-//mod root;
+mod root;
 mod trees;
-//mod walked;
+mod walked;
 
 pub use fault::WalkFault;
 pub use marks::{Mark, Marks};
 //pub use mixed::mixed;
 pub use reached::{LastBlock, PagePlace};
-//pub use walked::{Walked, walk};
+pub use walked::{LastBlockList, NodeList, PagePlaceList, Walked, walk};
