@@ -1,5 +1,5 @@
 -- The walk as a whole.
-use Rattle.std.proofs.Common.{◌≡◌, ℕ, zero, suc, ◌+◌, ◌-◌, ◌^◌, Bool, true, false, cond, List, [], ◌∷◌, ◌++◌, refl, sym, ap, subst, ◌∙◌}
+use Rattle.std.proofs.Common.{◌≡◌, ℕ, zero, suc, ◌+◌, ◌-◌, ◌^◌, ◌<◌, Bool, true, false, cond, List, [], ◌∷◌, ◌++◌, refl, sym, ap, subst, ◌∙◌, arith}
 use Rattle.std.specs.Prelude.{◌==◌, ◌&&◌, Result, Ok, Err}
 use Rattle.std.specs.Result.{IsErrAnd}
 use Rattle.std.specs.List.{flat_map, list_any}
@@ -9,14 +9,14 @@ use Rattle.vol_numbers.specs.Layout.{Layout}
 use Rattle.block_format.specs.Inode.{inode_in, pointer_of}
 use Rattle.block_format.specs.declared.inode.Inode.{Inode}
 use Rattle.block_tree.specs.Tree.{Blocks, index_at}
-use Rattle.image_model.specs.Met.{Met, index, not_inode, stray}
+use Rattle.image_model.specs.Met.{Met, index, not_inode, stray, pointers_to}
 use Rattle.image_model.specs.Walk.{met_at, entries_met, is_used, is_directory, is_good, is_pointer_wrong, bad_met, block_met, blocks_met, inodes_from, root_met, node_met, nodes_at, walk}
 use Rattle.image_walk.specs.declared.fault.WalkFault.{WalkFault}
 use Rattle.image_walk.specs.declared.fault.WalkFault.TheVariants.{Found, Device, OutOfMemory}
 use Rattle.image_walk.specs.declared.marks.Mark.{Mark}
 use Rattle.image_walk.specs.declared.reached.LastBlock.{LastBlock}
 use Rattle.image_walk.specs.declared.reached.Reached.{Reached}
-use Rattle.image_walk.specs.Marks.{SaysUpTo}
+use Rattle.image_walk.specs.Marks.{Says, SaysUpTo}
 use Rattle.image_walk.specs.Going.{Goes, EndsBy}
 use Rattle.image_walk.specs.Kept.{pages_of, all_lasts}
 use Rattle.image_walk.specs.Trees.{Passes, PassesOver}
@@ -119,9 +119,10 @@ module _ (g : Layout) (read : Blocks) (at : ℕ) (es : List ℕ) (entries : inde
 
 pub found_first : {T : Type 0} (g : Layout) (marks : List Mark) (ms : List Met) (r : Result T WalkFault) (fault : WalkFault) → IsErrAnd r (λ f. f ≡ fault) → SaysUpTo marks [] → EndsBy g marks ms fault → IsFinding g ms r
 found_first g marks ms (Ok value) fault same s ends = absurd same
-found_first g marks ms (Err f) fault same s ends = subst (λ (e : WalkFault). IsFinding g ms (Err e)) (sym same) (by fault ends)
-  where
-    by : {T : Type 0} (fault : WalkFault) → EndsBy g marks ms fault → IsFinding {T = T} g ms (Err fault)
-    by (Found f) ends = ends [] s
-    by Device ends = tt
-    by OutOfMemory ends = tt
+found_first g marks ms (Err (Found f)) fault same s ends = let mine : EndsBy g marks ms (Found f) = subst (EndsBy g marks ms) (sym same) ends in mine [] s
+found_first g marks ms (Err Device) fault same s ends = tt
+found_first g marks ms (Err OutOfMemory) fault same s ends = tt
+
+-- where no count has come to its end, each is exact
+pub says_exact : (marks : List Mark) (ms : List Met) → ((b : ℕ) → pointers_to b ms < 2 ^ 32) → SaysUpTo marks ms → Says marks ms
+says_exact marks ms few s = record { metadata = s.metadata; content = s.content; pointers = λ b. s.pointers b ∙ (let lt = few b in omega (arith, lt)) }
