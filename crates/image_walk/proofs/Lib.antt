@@ -1,3 +1,4 @@
+pub mod FewPointers
 pub mod GoingLaws
 pub mod InodeLaws
 pub mod MarkLaws

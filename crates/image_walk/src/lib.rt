@@ -5,7 +5,7 @@ mod fault;
 mod index;
 mod inodes;
 mod marks;
-//mod mixed;
+mod mixing;
 mod reached;
 mod reading;
 mod stray;
@@ -15,6 +15,6 @@ mod walked;
 
 pub use fault::WalkFault;
 pub use marks::{Mark, Marks};
-//pub use mixed::mixed;
+pub use mixing::mixed;
 pub use reached::{LastBlock, PagePlace};
 pub use walked::{LastBlockList, NodeList, PagePlaceList, Walked, walk};
