@@ -1,11 +1,11 @@
 -- Where the walk finds nothing wrong, no block has more pointers than a count can hold: each index block is reached once, and has 1,024 pointers.
-use Rattle.std.proofs.Common.{◌≡◌, ◌<◌, ◌≤◌, ℕ, zero, suc, ◌+◌, ◌-◌, ◌*◌, ◌^◌, Bool, true, false, cond, List, [], ◌∷◌, ◌++◌, length, take, drop, refl, sym, ap, subst, ◌∙◌, arith}
-use Rattle.std.specs.Prelude.{◌==◌, ◌&&◌, ◌||◌, nat_eq, nat_le, nat_lt, None}
+use Rattle.std.proofs.Common.{◌≡◌, ◌<◌, ◌≤◌, ℕ, zero, suc, ◌+◌, ◌*◌, ◌^◌, Bool, true, false, cond, List, [], ◌∷◌, ◌++◌, length, take, drop, refl, sym, ap, subst, ◌∙◌, arith}
+use Rattle.std.specs.Prelude.{◌==◌, ◌&&◌, ◌||◌, nat_eq, nat_lt, None}
 use Rattle.std.specs.List.{flat_map, list_all, list_any}
-use Rattle.std.proofs.lemmas.List.{append_assoc, length-append, length-take, length-drop}
+use Rattle.std.proofs.lemmas.List.{append_assoc, length-append, length-take}
 use Rattle.std.proofs.lemmas.List.Concat.{flat_map-cons}
 use Rattle.std.proofs.lemmas.Bool.Decides.{nat_tests}
-use Rattle.vol_numbers.specs.Layout.{Layout, area_start}
+use Rattle.vol_numbers.specs.Layout.{Layout}
 use Rattle.place_words.specs.Different.{different, is_among, times, passing, span, AllWithin}
 use Rattle.place_words.proofs.Counting.{different_is}
 use Rattle.block_format.specs.Words.{words}
@@ -13,7 +13,7 @@ use Rattle.block_format.specs.Inode.{inode_in, blocks_of}
 use Rattle.block_format.specs.declared.inode.Inode.{Inode}
 use Rattle.block_format.specs.declared.inode.Inode.TheVariants.{Unused, File, Directory}
 use Rattle.block_tree.specs.Tree.{Blocks, index_at}
-use Rattle.image_model.specs.Met.{Met, index, page, content, past, empty, not_inode, stray, meta_of, file_of, metas, files, pointers_to, NoFaults}
+use Rattle.image_model.specs.Met.{Met, index, page, content, past, empty, not_inode, file_of, metas, files, pointers_to, NoFaults}
 use Rattle.image_model.specs.Findings.{walk_finding, is_in_area}
 use Rattle.image_model.specs.Walk.{met_at, empty_met, empty_at, places_met, leaf_met, tops_met, leaves_met, tree_met, node_met, entries_met, blocks_met, root_met, is_used, is_directory, inodes_from, blocks_inodes, nodes_of, nodes_at, walk}
 use Rattle.image_model.proofs.NodeWalk.{metas_append}
@@ -119,8 +119,20 @@ module _ (read : Blocks) (what : ℕ → ℕ → Met) (few : (place p : ℕ) →
       let leaves = leaves_met read what blocks 0 (index_at read ptr) in
       let behind = other_faults one (blank ++ (tops ++ leaves)) none in
       let level = other_faults blank (tops ++ leaves) behind in
-      omega (arith, more_files one (blank ++ (tops ++ leaves)), more_files blank (tops ++ leaves), more_files tops leaves, index_files (ptr == 0) (nat_lt 0 blocks) ptr, blank_files (ptr == 0) ptr, tops_files 0 (index_at read ptr), few_leaves 0 (index_at read ptr),
-      more_metas one (blank ++ (tops ++ leaves)), more_metas blank (tops ++ leaves), more_metas tops leaves, tops_metas 0 (index_at read ptr) (first_faults tops leaves level))
+      omega (
+        arith,
+        more_files one (blank ++ (tops ++ leaves)),
+        more_files blank (tops ++ leaves),
+        more_files tops leaves,
+        index_files (ptr == 0) (nat_lt 0 blocks) ptr,
+        blank_files (ptr == 0) ptr,
+        tops_files 0 (index_at read ptr),
+        few_leaves 0 (index_at read ptr),
+        more_metas one (blank ++ (tops ++ leaves)),
+        more_metas blank (tops ++ leaves),
+        more_metas tops leaves,
+        tops_metas 0 (index_at read ptr) (first_faults tops leaves level),
+      )
     where
       blank_files : (t : Bool) (b : ℕ) → many_files (cond t [] (empty_met b (index_at read b))) ≡ 0
       blank_files true b = refl
@@ -227,9 +239,26 @@ few_pointers g read at le none b =
     let after = other_faults blocks (root ++ below) behind in
     let trees = few_nodes read nodes (other_faults root below after) in
     let no_inodes = (inodes_good read 0 es (first_faults blocks (root ++ below) behind)).none in
-    omega (arith, split_none (walk read at) b fine.none, fine.once b (omega arith), times_few b (files (walk read at)), few_metas g (walk read at) fine, trees,
-    more_files (entries_met es) (blocks ++ (root ++ below)), more_files blocks (root ++ below), more_files root below, more_metas (entries_met es) (blocks ++ (root ++ below)), more_metas blocks (root ++ below), more_metas root below,
-    entries_files es, ap many_files no_inodes, root_files (list_any (λ (node : ℕ × Inode). node.0 == 1 && is_directory node.1) nodes), nodes_few (blocks_inodes read 0 es), inodes_few read 0 es, entries_few (at == 0))
+    omega (
+      arith,
+      split_none (walk read at) b fine.none,
+      fine.once b (omega arith),
+      times_few b (files (walk read at)),
+      few_metas g (walk read at) fine,
+      trees,
+      more_files (entries_met es) (blocks ++ (root ++ below)),
+      more_files blocks (root ++ below),
+      more_files root below,
+      more_metas (entries_met es) (blocks ++ (root ++ below)),
+      more_metas blocks (root ++ below),
+      more_metas root below,
+      entries_files es,
+      ap many_files no_inodes,
+      root_files (list_any (λ (node : ℕ × Inode). node.0 == 1 && is_directory node.1) nodes),
+      nodes_few (blocks_inodes read 0 es),
+      inodes_few read 0 es,
+      entries_few (at == 0),
+    )
   where
     entries_files : (es : List ℕ) → many_files (entries_met es) ≡ 0
     entries_files [] = refl

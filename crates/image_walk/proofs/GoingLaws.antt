@@ -1,5 +1,5 @@
 -- One part of a walk after the other.
-use Rattle.std.proofs.Common.{◌≡◌, ℕ, List, [], ◌∷◌, ◌++◌, length, refl, sym, ap, subst, ◌∙◌}
+use Rattle.std.proofs.Common.{◌≡◌, ℕ, List, [], ◌∷◌, ◌++◌, refl, sym, ap, subst, ◌∙◌}
 use Rattle.std.specs.Prelude.{Option, Some, None, Result, Ok, Err}
 use Rattle.std.specs.Result.{IsErrAnd}
 use Rattle.std.proofs.lemmas.List.{append_assoc, append-nil}
@@ -12,7 +12,7 @@ use Rattle.image_walk.specs.declared.fault.WalkFault.TheVariants.{Found, Device,
 use Rattle.image_walk.specs.declared.marks.Mark.{Mark}
 use Rattle.image_walk.specs.Marks.{SaysUpTo}
 use Rattle.image_walk.specs.Cause.{HasWalkCause, IsOwn}
-use Rattle.image_walk.specs.Going.{reached_after, Goes, Finds, EndsBy, Walks, Part}
+use Rattle.image_walk.specs.Going.{reached_after, Goes, EndsBy, Walks, Part}
 
 then_assoc : (a b c : Option Finding) → (a then (b then c)) ≡ ((a then b) then c)
 then_assoc None b c = refl

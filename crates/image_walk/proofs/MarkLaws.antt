@@ -1,15 +1,14 @@
 -- Marks say what was met, pointer by pointer.
-use Rattle.std.proofs.Common.{◌≡◌, ◌<◌, ◌≤◌, ⊎_elim, ℕ, zero, suc, ◌+◌, ◌-◌, ◌*◌, ◌^◌, min, Bool, true, false, not, cond, List, [], ◌∷◌, ◌++◌, length, replicate, get_or, refl, sym, ap, subst, ◌∙◌, arith}
-use Rattle.std.specs.Prelude.{◌==◌, ◌||◌, slice_index_or, slice_set, Some, None, count_by}
+use Rattle.std.proofs.Common.{◌≡◌, ◌<◌, ⊎_elim, ℕ, zero, suc, ◌+◌, ◌-◌, ◌*◌, ◌^◌, min, Bool, true, false, not, cond, List, [], ◌∷◌, ◌++◌, length, replicate, get_or, refl, sym, ap, ◌∙◌, arith}
+use Rattle.std.specs.Prelude.{◌==◌, ◌||◌, slice_set, Some, None}
 use Rattle.std.specs.List.{list_any}
 use Rattle.std.proofs.lemmas.Bool.{cases_eq, eq-eqb}
 use Rattle.std.proofs.lemmas.Bool.Decides.{nat_tests}
 use Rattle.std.proofs.lemmas.List.{get_or-set_same, get_or-set_other, length-set}
-use Rattle.std.proofs.lemmas.List.Sums.{sum_by-cons, sum_by-append}
-use Rattle.vol_numbers.specs.Layout.{Layout, area_start, count_blocks}
+use Rattle.std.proofs.lemmas.List.Sums.{sum_by-cons}
+use Rattle.vol_numbers.specs.Layout.{Layout, count_blocks}
 use Rattle.image_model.specs.Met.{Met, index, page, content, past, empty, not_inode, stray, is_metadata_at, is_content_at, points_at, pointers_to}
-use Rattle.image_model.specs.Findings.{◌then◌, is_in_area, bad_if, met_finding, walk_finding, reached_with}
-use Rattle.image_model.specs.declared.finding.Finding.{Finding}
+use Rattle.image_model.specs.Findings.{◌then◌, is_in_area, bad_if}
 use Rattle.image_model.specs.declared.finding.Finding.TheVariants.{BadPointer, BadInode}
 use Rattle.image_walk.specs.declared.fault.WalkFault.TheVariants.{Found}
 use Rattle.image_walk.specs.declared.marks.Mark.{Mark}
@@ -180,8 +179,8 @@ module _ (g : Layout) (marks : List Mark) (p : ℕ) where
       (λ b e. or_false (mark_of marks p).is_metadata) (λ b ne. refl)
       (λ b e. meta_more (mark_of marks p).is_content (p == b) (test_same p b e)) (test_other p) (test_same p) (test_other p) refl
 
-  inside : area_start g ≤ p → p < g.blocks → is_in_area g p ≡ true
-  inside low high = grind (arith, nat_tests)
+  pub low_blocks : is_in_area g p ≡ true → p < g.blocks
+  low_blocks inside = grind (arith, nat_tests)
 
   fits : length marks ≡ 1024 * count_blocks g → p < g.blocks → p < length marks
   fits long high = omega arith
@@ -201,28 +200,32 @@ module _ (g : Layout) (marks : List Mark) (p : ℕ) where
   bad_outside false reached a = refl
 
   -- a block of the area that wasn't reached as metadata
-  pub goes_index : length marks ≡ 1024 * count_blocks g → area_start g ≤ p → p < g.blocks → (mark_of marks p).is_metadata ≡ false → Goes g marks as_meta (index p ∷ [])
-  goes_index long low high free = record {
+  pub goes_index : length marks ≡ 1024 * count_blocks g → is_in_area g p ≡ true → (mark_of marks p).is_metadata ≡ false → Goes g marks as_meta (index p ∷ [])
+  goes_index long inside free = record {
     long = length-set marks p (as_metadata (mark_of marks p));
-    says = λ before s. says_index before (fits long high) s;
-    fine = λ before s. bad_none (is_in_area g p) (list_any (λ r. r == p) (reached_after [] before)) (inside low high) (reached_is_marked marks before p s ∙ free);
+    says = λ before s. says_index before (fits long (low_blocks inside)) s;
+    fine = λ before s. bad_none (is_in_area g p) (list_any (λ r. r == p) (reached_after [] before)) inside (reached_is_marked marks before p s ∙ free);
   }
 
-  pub goes_page : (n place : ℕ) → length marks ≡ 1024 * count_blocks g → area_start g ≤ p → p < g.blocks → (mark_of marks p).is_metadata ≡ false → Goes g marks as_meta (page n place p ∷ [])
-  goes_page n place long low high free = record {
+  pub goes_page : (n place : ℕ) → length marks ≡ 1024 * count_blocks g → is_in_area g p ≡ true → (mark_of marks p).is_metadata ≡ false → Goes g marks as_meta (page n place p ∷ [])
+  goes_page n place long inside free = record {
     long = length-set marks p (as_metadata (mark_of marks p));
-    says = λ before s. says_page n place before (fits long high) s;
-    fine = λ before s. bad_none (is_in_area g p) (list_any (λ r. r == p) (reached_after [] before)) (inside low high) (reached_is_marked marks before p s ∙ free);
+    says = λ before s. says_page n place before (fits long (low_blocks inside)) s;
+    fine = λ before s. bad_none (is_in_area g p) (list_any (λ r. r == p) (reached_after [] before)) inside (reached_is_marked marks before p s ∙ free);
   }
 
-  pub goes_content : (n place : ℕ) → length marks ≡ 1024 * count_blocks g → area_start g ≤ p → p < g.blocks → Goes g marks as_file (content n place p ∷ [])
-  goes_content n place long low high = record {
+  pub goes_content : (n place : ℕ) → length marks ≡ 1024 * count_blocks g → is_in_area g p ≡ true → Goes g marks as_file (content n place p ∷ [])
+  goes_content n place long inside = record {
     long = length-set marks p (as_content (mark_of marks p));
-    says = λ before s. says_content n place before (fits long high) s;
-    fine = λ before s. ap (λ (t : Bool). bad_if (not t) (BadPointer p) then None) (inside low high);
+    says = λ before s. says_content n place before (fits long (low_blocks inside)) s;
+    fine = λ before s. ap (λ (t : Bool). bad_if (not t) (BadPointer p) then None) inside;
   }
 
-  -- one that was
+  -- a block outside the area
+  pub found_outside : is_in_area g p ≡ false → (before : List Met) → (bad_if (not (is_in_area g p) || list_any (λ r. r == p) (reached_after [] before)) (BadPointer p) then None) ≡ Some (BadPointer p)
+  found_outside outside before = bad_outside (is_in_area g p) (list_any (λ r. r == p) (reached_after [] before)) outside
+
+  -- one that was reached
   pub found_again : (mark_of marks p).is_metadata ≡ true → (before : List Met) → SaysUpTo marks before
       → (bad_if (not (is_in_area g p) || list_any (λ r. r == p) (reached_after [] before)) (BadPointer p) then None) ≡ Some (BadPointer p)
   found_again is before s = bad_reached (is_in_area g p) (list_any (λ r. r == p) (reached_after [] before)) (reached_is_marked marks before p s ∙ is)

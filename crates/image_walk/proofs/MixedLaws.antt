@@ -1,10 +1,8 @@
 -- Blocks that are metadata and a file's, one after the other.
-use Rattle.std.proofs.Common.{◌≡◌, ◌<◌, ◌≤◌, ℕ, suc, ◌+◌, ◌-◌, Bool, true, false, List, refl, sym, ap, ◌∙◌, arith}
-use Rattle.std.specs.Prelude.{◌&&◌, Option, Some, None}
-use Rattle.std.specs.List.{list_any}
-use Rattle.image_model.specs.Met.{Met, is_metadata_at, is_content_at}
+use Rattle.std.proofs.Common.{◌≡◌, ◌<◌, ◌≤◌, ℕ, suc, ◌+◌, ◌-◌, Bool, true, false, List, sym, ap, ◌∙◌, arith}
+use Rattle.std.specs.Prelude.{◌&&◌, Some, None}
+use Rattle.image_model.specs.Met.{Met}
 use Rattle.image_model.specs.Findings.{◌then◌, bad_if, mixed_finding}
-use Rattle.image_model.specs.declared.finding.Finding.{Finding}
 use Rattle.image_model.specs.declared.finding.Finding.TheVariants.{MixedBlock}
 use Rattle.image_walk.specs.declared.marks.Mark.{Mark}
 use Rattle.image_walk.specs.Marks.{Says, mark_of}

@@ -1,6 +1,6 @@
 -- The blocks of nodes, part by part.
 use Rattle.std.proofs.Common.{◌≡◌, ◌<◌, ℕ, zero, suc, ◌+◌, ◌-◌, ◌*◌, Bool, true, false, cond, List, [], ◌∷◌, ◌++◌, length, drop, get_or, refl, sym, ap, subst, ◌∙◌, arith}
-use Rattle.std.specs.Prelude.{◌==◌, nat_lt, Result, Ok, Err, Some}
+use Rattle.std.specs.Prelude.{◌==◌, nat_lt, Result, Some}
 use Rattle.std.specs.List.{list_all, flat_map}
 use Rattle.std.proofs.lemmas.Bool.{eq-eqb}
 use Rattle.std.proofs.lemmas.Bool.Decides.{nat_tests}
@@ -12,11 +12,10 @@ use Rattle.block_format.specs.Inode.{blocks_of}
 use Rattle.block_format.specs.declared.inode.Inode.TheVariants.{Unused, File, Directory}
 use Rattle.block_tree.specs.Tree.{Blocks, index_at}
 use Rattle.image_model.specs.Met.{Met, index, page, content, past, empty}
-use Rattle.image_model.specs.Walk.{met_at, empty_met, empty_at, places_met, leaf_met, tops_met, leaves_met, tree_met, node_met}
+use Rattle.image_model.specs.Walk.{met_at, empty_met, places_met, leaf_met, tops_met, leaves_met, tree_met, node_met}
 use Rattle.image_model.specs.Findings.{walk_finding}
 use Rattle.image_model.specs.declared.finding.Finding.TheVariants.{BadPointer}
 use Rattle.image_walk.specs.declared.fault.WalkFault.{WalkFault}
-use Rattle.image_walk.specs.declared.reached.LastBlock.{LastBlock}
 use Rattle.image_walk.specs.declared.reached.Owner.{Owner}
 use Rattle.image_walk.specs.declared.reached.Reached.{Reached}
 use Rattle.image_walk.specs.Going.{Goes, EndsBy}

@@ -1,5 +1,5 @@
 -- The walk as a whole.
-use Rattle.std.proofs.Common.{◌≡◌, ℕ, zero, suc, ◌+◌, ◌-◌, ◌^◌, ◌<◌, Bool, true, false, cond, List, [], ◌∷◌, ◌++◌, refl, sym, ap, subst, ◌∙◌, arith}
+use Rattle.std.proofs.Common.{◌≡◌, ℕ, ◌+◌, ◌^◌, ◌<◌, Bool, true, false, cond, List, [], ◌∷◌, ◌++◌, refl, sym, ap, subst, ◌∙◌, arith}
 use Rattle.std.specs.Prelude.{◌==◌, ◌&&◌, Result, Ok, Err}
 use Rattle.std.specs.Result.{IsErrAnd}
 use Rattle.std.specs.List.{flat_map, list_any}
@@ -14,15 +14,13 @@ use Rattle.image_model.specs.Walk.{met_at, entries_met, is_used, is_directory, i
 use Rattle.image_walk.specs.declared.fault.WalkFault.{WalkFault}
 use Rattle.image_walk.specs.declared.fault.WalkFault.TheVariants.{Found, Device, OutOfMemory}
 use Rattle.image_walk.specs.declared.marks.Mark.{Mark}
-use Rattle.image_walk.specs.declared.reached.LastBlock.{LastBlock}
 use Rattle.image_walk.specs.declared.reached.Reached.{Reached}
 use Rattle.image_walk.specs.Marks.{Says, SaysUpTo}
 use Rattle.image_walk.specs.Going.{Goes, EndsBy}
 use Rattle.image_walk.specs.Kept.{pages_of, all_lasts}
 use Rattle.image_walk.specs.Trees.{Passes, PassesOver}
 use Rattle.image_walk.specs.Walked.{IsFinding}
-use Rattle.image_walk.proofs.GoingLaws.{goes_none, goes_then, ends_then, ends_front}
-use Rattle.image_walk.proofs.MarkLaws.{ends_inode}
+use Rattle.image_walk.proofs.GoingLaws.{goes_none, ends_then, ends_front}
 use Rattle.image_walk.proofs.TreeLaws.{pages_append, passes_then}
 use Rattle.image_walk.proofs.NodeLaws.{no_pages_at}
 

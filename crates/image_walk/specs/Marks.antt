@@ -1,5 +1,5 @@
 -- What leads to each block, of all that a walk has met.
-use Rattle.std.specs.Prelude.{◌≡◌, ℕ, ◌+◌, ◌-◌, ◌^◌, min, Bool, true, false, List, slice_index_or}
+use Rattle.std.specs.Prelude.{◌≡◌, ℕ, ◌+◌, ◌-◌, ◌^◌, min, true, false, List, slice_index_or}
 use Rattle.std.specs.List.{list_any}
 use Rattle.image_model.specs.Met.{Met, is_metadata_at, is_content_at, pointers_to}
 use Rattle.image_walk.specs.declared.marks.Mark.{Mark}

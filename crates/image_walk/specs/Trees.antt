@@ -1,5 +1,5 @@
 -- Of private functions: how far a walk over the blocks of nodes has come.
-use Rattle.std.specs.Prelude.{◌≡◌, ℕ, ◌==◌, nat_lt, if◌then◌else◌, List, [], ◌∷◌, ◌++◌, Result, Ok, Err}
+use Rattle.std.specs.Prelude.{◌≡◌, ℕ, nat_lt, if◌then◌else◌, List, ◌++◌, Result, Ok, Err}
 use Rattle.vol_numbers.specs.Layout.{Layout}
 use Rattle.block_tree.specs.Tree.{Blocks, index_at}
 use Rattle.image_model.specs.Met.{Met, page, content}

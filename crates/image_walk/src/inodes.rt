@@ -14,8 +14,9 @@ ghost use Rattle.image_walk.specs.Going.{Checks};
 ghost use Rattle.image_walk.specs.Inodes.{block_at, inodes_at};
 
 use crate::WalkFault;
+use crate::area::is_in_area;
 use crate::reading::read_block;
-use crate::stray::{is_in_area, stray_in};
+use crate::stray::stray_in;
 use block_format::{Inode, read_any_inode};
 use disk_model::Disk;
 use image_model::Finding;
@@ -170,11 +171,7 @@ fn meet_stray(g: &Geometry, n: InoNo, inode: Inode) -> Result<Inode, WalkFault>
 }
 
 /// A node more, if the inode is used.
-fn keep_node(
-    nodes: &mut Vec<(InoNo, Inode)>,
-    n: InoNo,
-    inode: Inode,
-) -> Result<(), AllocError>
+fn keep_node(nodes: &mut Vec<(InoNo, Inode)>, n: InoNo, inode: Inode) -> Result<(), AllocError>
     ensures { OnOk result (nodes.new.items ≡ nodes.old.items ++ (if is_used inode then (n, inode) ∷ [] else [])) }
 {
     if is_used(&inode) {

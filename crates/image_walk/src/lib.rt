@@ -1,6 +1,7 @@
 //! Walks over all metadata of an image, and says what it reaches or what is wrong with it first.
 #![tactic(auto)]
 
+mod area;
 mod fault;
 mod index;
 mod inodes;
@@ -8,8 +9,8 @@ mod marks;
 mod mixing;
 mod reached;
 mod reading;
-mod stray;
 mod root;
+mod stray;
 mod trees;
 mod walked;
 

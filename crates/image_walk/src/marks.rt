@@ -9,6 +9,7 @@ ghost use Rattle.image_walk.specs.Going.{Walks};
 ghost use Rattle.image_walk.specs.Cause.{IsNoDevice};
 
 use crate::WalkFault;
+use crate::area::is_in_area;
 use image_model::Finding;
 use std::alloc::{AllocError, Global};
 use std::marker::Model;
@@ -102,7 +103,7 @@ impl Marks {
         ensures cause { IsNoDevice result }
         ensures within { OnOk result (IsInArea (layout_of g.now) ptr) }
     {
-        if ptr < g.area_start() || ptr >= g.blocks() {
+        if !is_in_area(ptr, g) {
             return Err(WalkFault::Found(Finding::BadPointer(ptr)));
         }
         let mark = self.marks[ptr as usize];
@@ -119,7 +120,7 @@ impl Marks {
         ensures walked { (n place : ℕ) → Walks (layout_of g.now) self.old self.new (content n place ptr ∷ []) result }
         ensures cause { IsNoDevice result }
     {
-        if ptr < g.area_start() || ptr >= g.blocks() {
+        if !is_in_area(ptr, g) {
             return Err(WalkFault::Found(Finding::BadPointer(ptr)));
         }
         let mark = self.marks[ptr as usize];

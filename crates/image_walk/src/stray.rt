@@ -1,13 +1,11 @@
 //! Nodes of no bytes that have a pointer nevertheless.
 ghost use Rattle.std.specs.Prelude.{◌≡◌, ◌↔◌, IsTrue, length};
-ghost use Rattle.vol_numbers.specs.Geometry.{layout_of};
 ghost use Rattle.block_format.specs.Inode.{node_bytes};
-ghost use Rattle.image_model.specs.Findings.{is_in_area};
 ghost use Rattle.image_walk.specs.Inodes.{stray_at, stray_of};
 
 use block_format::Inode;
 use byteorder::{ByteOrder, LittleEndian};
-use vol_numbers::{BlockNo, Geometry};
+use vol_numbers::BlockNo;
 
 /// The inode of these bytes, if nothing is wrong with it but that it has a pointer and no bytes.
 pub(crate) fn stray_in(bytes: &[u8]) -> Option<Inode>
@@ -58,11 +56,4 @@ fn is_same(a: &[u8], b: &[u8]) -> bool
     ensures { IsTrue result ↔ (a.now ≡ b.now) }
 {
     a == b
-}
-
-/// Whether it is the number of a block of the area.
-pub(crate) fn is_in_area(block: BlockNo, g: &Geometry) -> bool
-    ensures { result ≡ is_in_area (layout_of g.now) block }
-{
-    g.area_start() <= block && block < g.blocks()
 }

@@ -1,10 +1,10 @@
-use Rattle.std.proofs.Common.{◌≡◌, ◌<◌, ◌+◌, ◌∙◌, ℕ, List, ap, arith, get_or, drop, length, below_more}
-use Rattle.std.proofs.lemmas.List.{drop_more, drop_all}
+use Rattle.std.proofs.Common.{◌+◌, ◌∙◌, ℕ, List, ap, arith, get_or, drop, below_more}
+use Rattle.std.proofs.lemmas.List.{drop_more}
 use Rattle.vol_numbers.specs.Geometry.{layout_of}
 use Rattle.image_model.specs.Met.{index}
 use Rattle.image_model.specs.Walk.{met_at, entries_met}
 use Rattle.std.specs.Prelude.{true}
-use Rattle.image_walk.proofs.GoingLaws.{walks_err, part_ends, part_next, part_end}
+use Rattle.image_walk.proofs.GoingLaws.{walks_err, part_ends, part_next}
 use Rattle.image_walk.proofs.index.meet_entries.Goals as goal
 
 pub returns-in_err-meet_index-clause-walked : goal.returns-in_err-meet_index-clause-walked

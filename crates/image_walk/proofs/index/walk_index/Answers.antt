@@ -1,10 +1,9 @@
-use Rattle.std.proofs.Common.{◌≡◌, ◌∙◌, ◌++◌, ◌∷◌, [], ℕ, List, ap, refl, sym, subst, arith}
+use Rattle.std.proofs.Common.{◌∷◌, [], ℕ, List, refl, sym, subst}
 use Rattle.vol_numbers.specs.Geometry.{layout_of}
-use Rattle.block_tree.specs.Tree.{blocks_in, index_at}
 use Rattle.image_model.specs.Met.{index}
 use Rattle.image_model.specs.Walk.{entries_met}
 use Rattle.image_walk.specs.Going.{Goes, EndsBy}
-use Rattle.image_walk.proofs.GoingLaws.{walks_device, walks_err, ends_front, ends_then, goes_then, cause_passed}
+use Rattle.image_walk.proofs.GoingLaws.{walks_device, walks_err, ends_then, goes_then, cause_passed}
 use Rattle.image_walk.proofs.index.walk_index.Goals as goal
 
 pub returns-in_err-meet_metadata-clause-cause : goal.returns-in_err-meet_metadata-clause-cause

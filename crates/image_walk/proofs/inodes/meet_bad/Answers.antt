@@ -1,4 +1,4 @@
-use Rattle.std.proofs.Common.{◌≡◌, ◌∙◌, sym, ap, subst, List, [], ◌∷◌}
+use Rattle.std.proofs.Common.{◌∙◌, sym, ap, subst, List, [], ◌∷◌}
 use Rattle.vol_numbers.specs.Geometry.{layout_of}
 use Rattle.block_format.specs.Inode.{pointer_of}
 use Rattle.block_format.specs.declared.inode.Inode.{Inode}

@@ -1,6 +1,6 @@
-use Rattle.std.proofs.Common.{◌≡◌, ◌∙◌, arith}
+use Rattle.std.proofs.Common.{arith}
 use Rattle.vol_numbers.specs.Geometry.{layout_of}
-use Rattle.image_model.specs.Walk.{bad_met, block_met, inodes_from, nodes_of}
+use Rattle.image_model.specs.Walk.{block_met, inodes_from, nodes_of}
 use Rattle.image_walk.proofs.GoingLaws.{walks_err, ends_front}
 use Rattle.image_walk.proofs.InodeLaws.{ends_unused, goes_used, added_length}
 use Rattle.image_walk.proofs.inodes.meet_block.Goals as goal

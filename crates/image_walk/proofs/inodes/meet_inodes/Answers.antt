@@ -1,7 +1,7 @@
-use Rattle.std.proofs.Common.{◌≡◌, ◌∙◌, ◌+◌, ◌-◌, ◌*◌, ◌++◌, [], ◌∷◌, ℕ, List, cond, sym, ap, subst, arith, drop, refl}
+use Rattle.std.proofs.Common.{◌∙◌, ◌+◌, ◌-◌, ◌*◌, ◌++◌, [], ◌∷◌, ℕ, List, cond, sym, ap, subst, arith, drop}
 use Rattle.std.specs.List.{flat_map}
 use Rattle.vol_numbers.specs.Geometry.{layout_of}
-use Rattle.block_format.specs.Inode.{inode_in, inode_part}
+use Rattle.block_format.specs.Inode.{inode_part}
 use Rattle.block_format.specs.declared.inode.Inode.{Inode}
 use Rattle.image_model.specs.Met.{Met}
 use Rattle.image_model.specs.Walk.{bad_met, inodes_from, is_used}

@@ -1,13 +1,12 @@
-use Rattle.std.proofs.Common.{◌≡◌, ◌∙◌, ◌++◌, List, ℕ, sym, ap, subst}
+use Rattle.std.proofs.Common.{◌∙◌, ◌++◌, List, ℕ, sym, ap, subst}
 use Rattle.std.proofs.lemmas.List.{append-nil}
 use Rattle.vol_numbers.specs.Geometry.{layout_of}
-use Rattle.block_format.specs.declared.inode.Inode.{Inode}
 use Rattle.block_tree.specs.Tree.{blocks_in}
 use Rattle.image_model.specs.Met.{Met}
 use Rattle.image_model.specs.Walk.{nodes_of}
 use Rattle.image_walk.specs.Going.{Goes, Walks}
 use Rattle.image_walk.proofs.GoingLaws.{goes_none, walks_device}
-use Rattle.image_walk.proofs.InodeLaws.{block_none, inodes_none, block_some, inodes_some}
+use Rattle.image_walk.proofs.InodeLaws.{block_none, inodes_none, block_some}
 use Rattle.image_walk.proofs.inodes.walk_block.Goals as goal
 
 pub returns-then-at-eq0-clause-walked : goal.returns-then-at-eq0-clause-walked

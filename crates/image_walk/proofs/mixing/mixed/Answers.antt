@@ -1,4 +1,4 @@
-use Rattle.std.proofs.Common.{◌≡◌, ◌-◌, ◌∙◌, ℕ, ap, sym, arith}
+use Rattle.std.proofs.Common.{◌≡◌, ◌-◌, ◌∙◌, ap, sym, arith}
 use Rattle.vol_numbers.specs.Geometry.{layout_of}
 use Rattle.image_model.specs.Findings.{mixed_finding}
 use Rattle.image_walk.proofs.MixedLaws.{mixed_fine, mixed_here, mixed_end}

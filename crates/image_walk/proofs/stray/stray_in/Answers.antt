@@ -1,4 +1,4 @@
-use Rattle.std.proofs.Common.{◌≡◌, ◌∙◌, sym, ap, ℕ, get_or, refl}
+use Rattle.std.proofs.Common.{◌≡◌, ◌∙◌, sym, ap, ℕ, refl}
 use Rattle.std.specs.Prelude.{slice_index}
 use Rattle.block_format.specs.Inode.{node_bytes}
 use Rattle.image_walk.specs.Inodes.{stray_of}

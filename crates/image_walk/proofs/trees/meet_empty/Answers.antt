@@ -1,4 +1,4 @@
-use Rattle.std.proofs.Common.{◌∙◌, sym, [], ℕ, List}
+use Rattle.std.proofs.Common.{◌∙◌, sym, [], ℕ}
 use Rattle.std.specs.Prelude.{◌==◌}
 use Rattle.std.specs.List.{list_all}
 use Rattle.image_walk.specs.Going.{reached_after}

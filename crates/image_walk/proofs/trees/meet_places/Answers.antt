@@ -1,4 +1,4 @@
-use Rattle.std.proofs.Common.{◌≡◌, ◌+◌, ◌∙◌, ℕ, List, [], ap, subst, arith, drop, get_or}
+use Rattle.std.proofs.Common.{◌≡◌, ◌+◌, ◌∙◌, ℕ, List, subst, arith, drop, get_or}
 use Rattle.vol_numbers.specs.Geometry.{layout_of}
 use Rattle.image_model.specs.Walk.{places_met}
 use Rattle.image_model.specs.Met.{Met}

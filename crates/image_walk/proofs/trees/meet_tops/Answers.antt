@@ -1,4 +1,4 @@
-use Rattle.std.proofs.Common.{◌≡◌, ◌+◌, ◌*◌, ◌∙◌, ℕ, List, arith, drop, get_or, below_more}
+use Rattle.std.proofs.Common.{◌+◌, ◌*◌, ◌∙◌, ℕ, List, arith, drop, get_or, below_more}
 use Rattle.std.specs.Prelude.{nat_lt}
 use Rattle.vol_numbers.specs.Geometry.{layout_of}
 use Rattle.image_model.specs.Met.{index}

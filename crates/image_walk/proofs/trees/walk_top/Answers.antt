@@ -1,7 +1,7 @@
-use Rattle.std.proofs.Common.{◌≡◌, ◌∙◌, ℕ, List, ap, sym, subst, refl, arith}
+use Rattle.std.proofs.Common.{ℕ, List, sym, subst, refl}
 use Rattle.vol_numbers.specs.Geometry.{layout_of}
 use Rattle.disk_model.specs.Disk.{State}
-use Rattle.block_tree.specs.Tree.{blocks_in, index_at}
+use Rattle.block_tree.specs.Tree.{blocks_in}
 use Rattle.image_model.specs.Met.{Met}
 use Rattle.image_model.specs.Walk.{leaves_met}
 use Rattle.image_walk.specs.Kept.{lasts_of}

@@ -1,4 +1,4 @@
-use Rattle.std.proofs.Common.{◌≡◌, ◌∙◌, refl}
+use Rattle.std.proofs.Common.{refl}
 use Rattle.vol_numbers.specs.Geometry.{layout_of}
 use Rattle.block_tree.specs.Tree.{blocks_in}
 use Rattle.image_model.specs.Walk.{tree_met}

@@ -1,4 +1,4 @@
-use Rattle.std.proofs.Common.{◌≡◌, ◌∙◌, ◌*◌, [], List, sym, subst}
+use Rattle.std.proofs.Common.{◌*◌, [], List, sym, subst}
 use Rattle.vol_numbers.specs.Geometry.{layout_of}
 use Rattle.vol_numbers.specs.Layout.{count_blocks}
 use Rattle.block_tree.specs.Tree.{blocks_in}

@@ -5,7 +5,7 @@ use Rattle.disk_model.specs.Disk.{State}
 use Rattle.block_format.specs.declared.inode.Inode.{Inode}
 use Rattle.block_tree.specs.Tree.{blocks_in, index_at}
 use Rattle.image_model.specs.Met.{index}
-use Rattle.image_model.specs.Walk.{entries_met, blocks_met, blocks_inodes, root_met, node_met, nodes_of, nodes_at, walk}
+use Rattle.image_model.specs.Walk.{entries_met, blocks_met, blocks_inodes, root_met, node_met, nodes_of, nodes_at}
 use Rattle.image_walk.specs.Going.{Goes, EndsBy}
 use Rattle.image_walk.specs.Kept.{all_lasts}
 use Rattle.image_walk.specs.Trees.{PassesOver}
