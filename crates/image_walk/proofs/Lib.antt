@@ -1,0 +1,9 @@
+pub mod FewPointers
+pub mod GoingLaws
+pub mod InodeLaws
+pub mod MarkLaws
+pub mod MixedLaws
+pub mod NodeLaws
+pub mod StrayLaws
+pub mod TreeLaws
+pub mod WholeLaws

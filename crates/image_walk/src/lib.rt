@@ -1,0 +1,21 @@
+//! Walks over all metadata of an image, and says what it reaches or what is wrong with it first.
+#![tactic(auto)]
+
+mod area;
+mod fault;
+mod index;
+mod inodes;
+mod marks;
+mod mixing;
+mod reached;
+mod reading;
+mod root;
+mod stray;
+mod trees;
+mod walked;
+
+pub use fault::WalkFault;
+pub use marks::{Mark, Marks};
+pub use mixing::mixed;
+pub use reached::{LastBlock, PagePlace};
+pub use walked::{LastBlockList, NodeList, PagePlaceList, Walked, walk};
