@@ -15,7 +15,7 @@ one_more (x ∷ xs) h order below = (above xs order.0, one_more xs h order.1 bel
     above [] all = (below.0, tt)
     above (y ∷ ys) all = (all.0, above ys all.1)
 
-all_above_at : (held : List Held) (n k : ℕ) → AllAbove n held → k < length held → n < number_at held k
+pub all_above_at : (held : List Held) (n k : ℕ) → AllAbove n held → k < length held → n < number_at held k
 all_above_at [] n k all lt = absurd (omega (arith, lt))
 all_above_at (h ∷ hs) n zero all lt = all.0
 all_above_at (h ∷ hs) n (suc k) all lt = all_above_at hs n k all.1 (omega (arith, lt))
@@ -27,7 +27,7 @@ number_rises (h ∷ hs) j zero order lt within = absurd (omega (arith, lt))
 number_rises (h ∷ hs) zero (suc k) order lt within = all_above_at hs h.number k order.0 (omega (arith, within))
 number_rises (h ∷ hs) (suc j) (suc k) order lt within = number_rises hs j k order.1 (omega (arith, lt)) (omega (arith, within))
 
-apart : (m n : ℕ) → m < n → nat_eq m n ≡ false
+pub apart : (m n : ℕ) → m < n → nat_eq m n ≡ false
 apart m n lt = grind (arith, nat_tests)
 
 pub found_at : (held : List Held) (n k : ℕ) → IsInOrder held → k < length held → number_at held k ≡ n → slots_at held n ≡ Some (held_at held k).slots

@@ -1,6 +1,8 @@
 //! A list of directories by number.
 ghost use Rattle.std.specs.Prelude.{◌≡◌, ◌<◌, [], ◌∷◌, ◌++◌, length, Some, None, MatchOption, OnOk, OnErr};
-ghost use Rattle.held_list.specs.Held.{IsInOrder, AllBelow, slots_at};
+ghost use Rattle.std.specs.Borrow.{sem};
+ghost use Rattle.std.specs.Option.{option_copied_mut};
+ghost use Rattle.held_list.specs.Held.{IsInOrder, AllBelow, slots_at, with_slots, without};
 
 use crate::held::Held;
 use crate::places::place_of;
@@ -28,6 +30,8 @@ impl Model for HeldList {
 }
 
 impl HeldList {
+    ghost use Rattle.held_list.specs.Lending.{LendsSlots};
+
     /// No directories. It takes no memory.
     pub fn new(alloc: Global) -> HeldList
         ensures { result ≡ [] }
@@ -70,5 +74,47 @@ impl HeldList {
     {
         self.items.push(Held { number, slots })?;
         Ok(())
+    }
+
+    /// Puts a directory under a number, in place of what the number had.
+    pub fn insert(&mut self, number: InoNo, slots: Directory) -> Result<(), AllocError>
+        ensures inserted { OnOk result (self.new ≡ with_slots self.old number slots) }
+        ensures unchanged { OnErr result (self.new ≡ self.old) }
+    {
+        match place_of(&self.items, number) {
+            Ok(place) => {
+                self.items[place] = Held { number, slots };
+                Ok(())
+            }
+            Err(place) => {
+                self.items.insert(place, Held { number, slots })?;
+                Ok(())
+            }
+        }
+    }
+
+    /// Takes the directory of a number away, and gives it.
+    pub fn remove(&mut self, number: InoNo) -> Option<Directory>
+        ensures given { result ≡ slots_at self.old number }
+        ensures removed { self.new ≡ without self.old number }
+    {
+        match place_of(&self.items, number) {
+            Ok(place) => {
+                let held = self.items.remove(place);
+                Some(held.slots)
+            }
+            Err(_) => None,
+        }
+    }
+
+    /// The directory of a number, to be changed.
+    pub fn get_mut(&mut self, number: InoNo) -> Option<&mut Directory>
+        ensures* writes_back { sem 𝓛 (LendsSlots self.entry number result) }
+        ensures value { option_copied_mut result ≡ slots_at self.old number }
+    {
+        match place_of(&self.items, number) {
+            Ok(place) => Some(&mut self.items[place].slots),
+            Err(_) => None,
+        }
     }
 }
