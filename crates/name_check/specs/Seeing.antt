@@ -1,5 +1,5 @@
 -- What is seen of files and directories, as the lists that a walk leaves have it.
-use Rattle.std.specs.Prelude.{◌≡◌, ℕ, ◌-◌, false, List, [], ◌∷◌, ◌++◌, map, replicate, length, Contains, Some, None}
+use Rattle.std.specs.Prelude.{◌≡◌, ◌≤◌, ℕ, ◌-◌, false, List, [], ◌∷◌, ◌++◌, map, replicate, length, Contains, Some, None}
 use Rattle.block_format.specs.Inode.{blocks_of}
 use Rattle.block_format.specs.declared.inode.Inode.{Inode}
 use Rattle.block_format.specs.declared.inode.Inode.TheVariants.{Unused, File, Directory}
@@ -11,7 +11,10 @@ use Rattle.held_list.specs.declared.held.Held.{Held as Directories}
 use Rattle.image_model.specs.Seen.{Seen}
 use Rattle.image_model.specs.Slots.{held_at, slots_of, inode_of}
 use Rattle.image_model.specs.Walk.{is_directory}
+use Rattle.image_model.specs.Nodes.{directory_finding}
 use Rattle.name_check.specs.Blocks.{blocks_held}
+use Rattle.name_check.specs.declared.fault.NameFault.{NameFault}
+use Rattle.name_check.specs.declared.fault.NameFault.TheVariants.{Found, Device, OutOfMemory}
 use Rattle.name_check.specs.declared.blocks.NodeBlock.{NodeBlock}
 
 -- Of each file the block of its last place is among these, or it is a hole.
@@ -34,5 +37,15 @@ directory_numbers ((n, Directory width height ptr) ∷ nodes) = n ∷ directory_
 pub record HoldsDirectories (s : Seen) (held : List Directories) : Type 0 where
   pub numbers : map (λ h. h.number) held ≡ directory_numbers s.nodes
   pub slots : (n : ℕ) (slots : List Slot) → slots_at held n ≡ Some slots → (k : ℕ) × (slots_of s n ≡ slots ++ replicate k slot.Unused)
-  pub widths : (n width height ptr : ℕ) (slots : List Slot) → Contains s.nodes (n, Directory width height ptr) → slots_at held n ≡ Some slots → length slots ≡ width
+
   pub others : (n : ℕ) → slots_at held n ≡ None → slots_of s n ≡ []
+
+-- each directory's width is within the limit
+abbrev pub HaveWidths : List (ℕ × Inode) → Type 0
+HaveWidths nodes = (n width height ptr : ℕ) → Contains nodes (n, Directory width height ptr) → width ≤ 65534
+
+-- what is found is what is wrong with the directories first
+abbrev pub FindsInNodes : Seen → NameFault → Type 0
+FindsInNodes s (Found f) = directory_finding s ≡ Some f
+FindsInNodes s Device = Unit {0}
+FindsInNodes s OutOfMemory = Unit {0}

@@ -2,16 +2,12 @@
 #![tactic(auto)]
 
 mod blocks;
-//mod directory_check;
+mod directory_check;
 mod fault;
-//mod lost;
-//mod naming;
 mod reading;
 mod tail_check;
-//mod tree_check;
 
 pub use blocks::NodeBlock;
-//pub use directory_check::directories;
+pub use directory_check::directories;
 pub use fault::NameFault;
 pub use tail_check::tails;
-//pub use tree_check::tree;
