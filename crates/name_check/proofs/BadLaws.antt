@@ -4,12 +4,11 @@ use Rattle.std.specs.Prelude.{◌==◌, ◌||◌, nat_eq, nat_lt, count_by, Resu
 use Rattle.std.specs.List.{list_all}
 use Rattle.std.proofs.lemmas.Bool.{eqb-true, eq-eqb}
 use Rattle.std.proofs.lemmas.Bool.Decides.{nat_tests}
-use Rattle.std.proofs.lemmas.List.{drop_at, get_or_past, get_or-take, get_or-drop, length-take, length-take-le, length-drop, length-map}
+use Rattle.std.proofs.lemmas.List.{drop_at, get_or_past, get_or-take, get_or-drop, length-take-le, length-drop, length-map}
 use Rattle.std.proofs.lemmas.List.Sums.{sum_by-cons}
 use Rattle.vol_numbers.specs.declared.runs.Page.{Page}
 use Rattle.block_format.specs.Inode.{blocks_of}
-use Rattle.block_format.specs.Slot.{SlotFits, slot_bytes, slot_part}
-use Rattle.block_format.specs.declared.inode.Inode.{Inode}
+use Rattle.block_format.specs.Slot.{SlotFits, slot_bytes}
 use Rattle.block_format.specs.declared.inode.Inode.TheVariants.{Directory}
 use Rattle.block_format.specs.declared.slot.Slot.{Slot}
 use Rattle.block_format.specs.declared.slot.Slot.TheVariants as slots
@@ -25,9 +24,9 @@ use Rattle.name_check.specs.Directories.{is_bad, HaveBytes, IsRead, IsBad, Finds
 use Rattle.name_check.specs.declared.fault.NameFault.{NameFault}
 use Rattle.name_check.specs.declared.fault.NameFault.TheVariants.{Found, Device, OutOfMemory}
 use Rattle.name_check.specs.declared.blocks.NodeBlock.{NodeBlock}
-use Rattle.name_check.proofs.ReadLaws.{piece, no_piece, piece_at, all_at, length_pieces, slot_is, names_once}
+use Rattle.name_check.proofs.ReadLaws.{no_piece, piece_at, all_at, length_pieces, slot_is, names_once}
 use Rattle.name_check.proofs.RunLaws.{own}
-use Rattle.name_check.proofs.SlotLaws.{Pieces, pieces_of, spelled, all_slots, all_good, spelled_slots, slots_between, no_twin, all_empty}
+use Rattle.name_check.proofs.SlotLaws.{Pieces, pieces_of, all_slots, all_good, spelled_slots, slots_between, no_twin, all_empty}
 
 -- ---- the blocks of a number
 
@@ -97,7 +96,7 @@ no_faults blocks ss is =
     let good : are_spelled (pieces_of blocks) ≡ true = ap are_spelled pieces ∙ all_good ss is.directory (16 * 0) (16 * length blocks) in
     let slots_are = spelled_slots_are blocks ss is in
     let empty : list_all is_empty (drop (length ss) (slots_in (pieces_of blocks))) ≡ true =
-        ap (λ (xs : List Slot). list_all is_empty (drop (length ss) xs)) slots_are ∙ ap (list_all is_empty) (drop_at ss (replicate m slots.Unused) (length ss) refl) ∙ all_empty m in
+    ap (λ (xs : List Slot). list_all is_empty (drop (length ss) xs)) slots_are ∙ ap (list_all is_empty) (drop_at ss (replicate m slots.Unused) (length ss) refl) ∙ all_empty m in
     let once : has_twin (slots_in (pieces_of blocks)) ≡ false = ap has_twin slots_are ∙ no_twin ss m is.directory.names in
     none _ _ _ _ (ap not (eq-eqb (length blocks) (blocks_of (256 * length ss)) full)) (ap not good) (ap not empty) once
   where

@@ -1,9 +1,9 @@
 -- Directories that are held of nodes, in order.
-use Rattle.std.proofs.Common.{◌≡◌, ℕ, zero, suc, ◌+◌, ◌<◌, ◌≤◌, Bool, true, false, cond, List, [], ◌∷◌, ◌++◌, length, take, drop, map, replicate, get_or, Option, Some, None, refl, sym, ap, subst, ◌∙◌, arith}
-use Rattle.std.specs.Prelude.{◌==◌, nat_eq, Contains, Result, Ok, Err, IfErr}
+use Rattle.std.proofs.Common.{◌≡◌, ℕ, zero, suc, ◌+◌, ◌<◌, ◌≤◌, Bool, true, false, cond, List, [], ◌∷◌, ◌++◌, length, take, drop, map, get_or, Option, Some, None, refl, sym, ap, subst, ◌∙◌, arith}
+use Rattle.std.specs.Prelude.{nat_eq, Contains}
 use Rattle.std.proofs.lemmas.Bool.{eqb-true, eq-eqb}
 use Rattle.std.proofs.lemmas.Bool.Decides.{nat_tests}
-use Rattle.std.proofs.lemmas.List.{take_more, map-append, get_or_default, get_or-take, length-take}
+use Rattle.std.proofs.lemmas.List.{take_more, map-append, get_or_default}
 use Rattle.block_format.specs.declared.inode.Inode.{Inode}
 use Rattle.block_format.specs.declared.inode.Inode.TheVariants.{Unused, File, Directory}
 use Rattle.block_format.specs.declared.slot.Slot.{Slot}
@@ -18,8 +18,8 @@ use Rattle.image_model.specs.Walk.{is_directory}
 use Rattle.image_model.specs.declared.finding.Finding.{Finding}
 use Rattle.image_model.specs.declared.finding.Finding.TheVariants.{BadDirectory}
 use Rattle.name_check.specs.Blocks.{blocks_held}
-use Rattle.name_check.specs.Directories.{IsRead, IsBad, FindsBad, AreHeld, is_bad, pages_seen}
-use Rattle.name_check.specs.Seeing.{HoldsDirectories, HasOwners, HaveWidths, FindsInNodes, directory_numbers}
+use Rattle.name_check.specs.Directories.{IsRead, FindsBad, AreHeld, is_bad, pages_seen}
+use Rattle.name_check.specs.Seeing.{HoldsDirectories, HasOwners, FindsInNodes, directory_numbers}
 use Rattle.name_check.specs.declared.blocks.NodeBlock.{NodeBlock}
 use Rattle.name_check.specs.declared.fault.NameFault.{NameFault}
 use Rattle.name_check.specs.declared.fault.NameFault.TheVariants.{Found, Device, OutOfMemory}
@@ -166,13 +166,41 @@ module _ (read : Blocks) (pages : List NodeBlock) where
   behind_apart from n (node ∷ nodes) x rise (zero, lt, is) = let e : node.0 ≡ n = ap (λ (p : ℕ × Inode). p.0) is in let a = rise.0 in omega (arith, e, a)
   behind_apart from n (node ∷ nodes) x rise (suc k, lt, is) = let more = behind_apart (node.0 + 1) n nodes x rise.1 (k, omega (arith, lt), is) in let a = rise.0 in omega (arith, more, a)
 
+  width_of : Inode → ℕ
+  width_of Unused = 0
+  width_of (File size height ptr) = 0
+  width_of (Directory width height ptr) = width
+
+  found_wide : (from : ℕ) (nodes : Nodes) (held : List Held) (n width height ptr : ℕ) (slots : List Slot) → Rising from (map (λ node. node.0) nodes) → AreHeld read pages nodes held
+      → Contains nodes (n, Directory width height ptr) → slots_at held n ≡ Some slots → length slots ≡ width
+  unfolding width_of
+  found_wide from [] held n width height ptr slots rise are (k, lt, is) e = absurd (omega (arith, lt))
+  found_wide from ((m, Unused) ∷ xs) held n width height ptr slots rise are (zero, lt, is) e = let t : false ≡ true = ap (λ (p : ℕ × Inode). is_directory p.1) is in cc
+  found_wide from ((m, Unused) ∷ xs) held n width height ptr slots rise are (suc k, lt, is) e = found_wide (m + 1) xs held n width height ptr slots rise.1 are (k, omega (arith, lt), is) e
+  found_wide from ((m, File s he p) ∷ xs) held n width height ptr slots rise are (zero, lt, is) e = let t : false ≡ true = ap (λ (p : ℕ × Inode). is_directory p.1) is in cc
+  found_wide from ((m, File s he p) ∷ xs) held n width height ptr slots rise are (suc k, lt, is) e = found_wide (m + 1) xs held n width height ptr slots rise.1 are (k, omega (arith, lt), is) e
+  found_wide from ((m, Directory w he p) ∷ xs) [] n width height ptr slots rise are has e = absurd are
+  found_wide from ((m, Directory w he p) ∷ xs) (h ∷ hs) n width height ptr slots rise are (zero, lt, is) e =
+      let number : m ≡ n = ap (λ (p : ℕ × Inode). p.0) is in
+      let wide : w ≡ width = ap (λ (p : ℕ × Inode). width_of p.1) is in
+      let same : nat_eq h.number n ≡ true = eq-eqb h.number n (are.0 ∙ number) in
+      let there : Some h.slots ≡ Some slots = sym (ap (λ (t : Bool). cond t (Some h.slots) (slots_at hs n)) same) ∙ e in
+      let slots_are : h.slots ≡ slots = grind arith in
+      ap length (sym slots_are) ∙ are.1.wide ∙ wide
+  found_wide from ((m, Directory w he p) ∷ xs) (h ∷ hs) n width height ptr slots rise are (suc k, lt, is) e =
+      let behind = behind_apart (m + 1) n xs (Directory width height ptr) rise.1 (k, omega (arith, lt), is) in
+      let number = are.0 in
+      let apart : nat_eq h.number n ≡ false = grind (arith, nat_tests) in
+      found_wide (m + 1) xs hs n width height ptr slots rise.1 are.2 (k, omega (arith, lt), is) (sym (ap (λ (t : Bool). cond t (Some h.slots) (slots_at hs n)) apart) ∙ e)
+
   are_seen : (s : Seen) → s.pages ≡ blocks_held read pages → (n : ℕ) → slots_of s n ≡ slots_of (pages_seen read pages) n
   are_seen s same n = ap (λ (hs : List Blocks_held). slots_of (record { met = []; nodes = []; pages = hs; contents = []; kept = [] }) n) same
 
-  pub all_held : (nodes : Nodes) (held : List Held) (s : Seen) → map (λ h. h.number) held ≡ directory_numbers nodes → AreHeld read pages nodes held → s.nodes ≡ nodes → s.pages ≡ blocks_held read pages → HasOwners s → HoldsDirectories s held
-  all_held nodes held s numbers are same same_pages owners = record {
+  pub all_held : (nodes : Nodes) (held : List Held) (s : Seen) → Rising 0 (map (λ node. node.0) nodes) → map (λ h. h.number) held ≡ directory_numbers nodes → AreHeld read pages nodes held → s.nodes ≡ nodes → s.pages ≡ blocks_held read pages → HasOwners s → HoldsDirectories s held
+  all_held nodes held s rise numbers are same same_pages owners = record {
     numbers = numbers ∙ ap directory_numbers (sym same);
     slots = λ n slots is. let good = found_read nodes held n slots are is in (good.1.seen.0, are_seen s same_pages n ∙ good.1.seen.1);
+    widths = λ n width height ptr slots has is. found_wide 0 nodes held n width height ptr slots rise are (subst (λ (xs : Nodes). Contains xs (n, Directory width height ptr)) same has) is;
     others = λ n is. owners n (ap (λ (xs : Nodes). is_directory (inode_of xs n)) same ∙ found_not nodes held n are is);
   }
 

@@ -1,24 +1,24 @@
 -- What passes all tests is spelled.
-use Rattle.std.proofs.Common.{◌≡◌, ℕ, zero, suc, ◌+◌, ◌-◌, ◌*◌, ◌<◌, ◌≤◌, Bool, true, false, not, cond, List, [], ◌∷◌, ◌++◌, length, take, drop, map, get_or, refl, sym, ap, subst, ◌∙◌, arith}
-use Rattle.std.specs.Prelude.{◌≢◌, ◌==◌, ◌&&◌, ◌||◌, nat_eq, nat_le, nat_lt, bytes_eq, All}
+use Rattle.std.proofs.Common.{◌≡◌, ℕ, zero, suc, ◌+◌, ◌*◌, ◌<◌, ◌≤◌, Bool, true, false, not, List, [], ◌∷◌, ◌++◌, length, take, drop, get_or, refl, sym, ap, ◌∙◌, arith}
+use Rattle.std.specs.Prelude.{◌≢◌, ◌==◌, ◌&&◌, ◌||◌, nat_le, bytes_eq, All}
 use Rattle.std.specs.List.{list_all, list_any}
 use Rattle.std.proofs.lemmas.Bool.Decides.{nat_tests}
-use Rattle.std.proofs.lemmas.List.{get_or_append_left, get_or-append-add, get_or_past, get_or-take, length-take, length-append, get_or-drop}
+use Rattle.std.proofs.lemmas.List.{get_or_append_left, get_or-append-add, length-append}
 use Rattle.std.proofs.lemmas.List.Elements.{All-nil, All-cons}
 use Rattle.std.proofs.lemmas.Slice.Eq.{bytes_eq-Decides}
 use Rattle.vol_numbers.specs.Name.{IsName}
 use Rattle.vol_numbers.specs.declared.runs.Page.{Page}
-use Rattle.block_format.specs.Slot.{SlotFits, slot_in, slot_bytes, slot_part}
+use Rattle.block_format.specs.Slot.{SlotFits, slot_in, slot_bytes}
 use Rattle.block_format.specs.declared.slot.Slot.{Slot}
 use Rattle.block_format.specs.declared.slot.Slot.TheVariants as slots
-use Rattle.dir_slots.specs.Pages.{IsPage, pages_for, bytes_at, SpellsDirectory}
-use Rattle.dir_slots.specs.Slots.{IsDirectory, slot_at, is_used as is_entry, name_of, HasNamesOnce}
+use Rattle.dir_slots.specs.Pages.{bytes_at}
+use Rattle.dir_slots.specs.Slots.{slot_at, is_used as is_entry, name_of, HasNamesOnce}
 use Rattle.tree_model.specs.Path.{name_eq}
-use Rattle.image_model.specs.Nodes.{is_slot_spelled, is_empty, has_twin, is_entry_name}
+use Rattle.image_model.specs.Nodes.{is_slot_spelled, has_twin, is_entry_name}
 use Rattle.image_model.specs.Slots.{slots_from, is_name}
 use Rattle.image_model.proofs.FileLaws.{drop_twice}
 use Rattle.image_model.proofs.Paths.{both, name_itself}
-use Rattle.name_check.proofs.SlotLaws.{Pieces, pieces_of}
+use Rattle.name_check.proofs.SlotLaws.{pieces_of}
 
 -- ---- the piece of a place
 

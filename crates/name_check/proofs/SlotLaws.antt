@@ -1,27 +1,25 @@
 -- Slots in the bytes of a directory's blocks, and the tests over them.
-use Rattle.std.proofs.Common.{◌≡◌, ℕ, zero, suc, ◌+◌, ◌-◌, ◌*◌, ◌<◌, ◌≤◌, Bool, true, false, not, cond, List, [], ◌∷◌, ◌++◌, length, take, drop, replicate, map, get_or, refl, sym, ap, subst, ◌∙◌, arith}
-use Rattle.std.specs.Prelude.{◌≢◌, ◌==◌, ◌&&◌, ◌||◌, nat_eq, nat_le, nat_lt, bytes_eq, slice_index_or, All}
-use Rattle.std.specs.List.{list_all, list_any, flat_map}
-use Rattle.std.proofs.lemmas.Bool.{eqb-true, eq-eqb}
+use Rattle.std.proofs.Common.{◌≡◌, ℕ, zero, suc, ◌+◌, ◌-◌, ◌*◌, ◌<◌, ◌≤◌, Bool, true, false, not, List, [], ◌∷◌, ◌++◌, length, take, drop, replicate, map, refl, sym, ap, subst, ◌∙◌, arith}
+use Rattle.std.specs.Prelude.{◌≢◌, ◌==◌, ◌&&◌, ◌||◌, nat_le, bytes_eq, slice_index_or, All}
+use Rattle.std.specs.List.{list_all, list_any}
 use Rattle.std.proofs.lemmas.Bool.Decides.{nat_tests}
-use Rattle.std.proofs.lemmas.List.{drop_at, map-append, get_or_append_left, get_or-append-add, get_or_past, get_or-take, length-take, length-append}
+use Rattle.std.proofs.lemmas.List.{map-append}
 use Rattle.std.proofs.lemmas.List.Elements.{All-head, All-tail}
-use Rattle.std.proofs.lemmas.List.Concat.{flat_map-cons}
 use Rattle.std.proofs.lemmas.Slice.Eq.{bytes_eq-Decides}
 use Rattle.vol_numbers.specs.Name.{IsName}
 use Rattle.vol_numbers.specs.declared.runs.Page.{Page}
-use Rattle.block_format.specs.Slot.{SlotFits, slot_in, slot_bytes, slot_part}
+use Rattle.block_format.specs.Slot.{SlotFits, slot_in, slot_bytes}
 use Rattle.block_format.specs.declared.slot.Slot.{Slot}
 use Rattle.block_format.specs.declared.slot.Slot.TheVariants as slots
 use Rattle.block_format.proofs.SlotLaws.{slot_in-bytes}
-use Rattle.dir_slots.specs.Pages.{IsPage, pages_for, bytes_at, SpellsDirectory}
+use Rattle.dir_slots.specs.Pages.{IsPage, bytes_at}
 use Rattle.dir_slots.specs.Slots.{IsDirectory, slot_at, is_used as is_entry, name_of, HasNamesOnce}
 use Rattle.place_words.specs.Different.{span}
 use Rattle.tree_model.specs.Path.{name_eq}
 use Rattle.image_model.specs.Nodes.{is_slot_spelled, is_empty, has_twin, is_entry_name}
 use Rattle.image_model.specs.Slots.{slots_from, is_name}
 use Rattle.image_model.proofs.FileLaws.{drop_twice}
-use Rattle.image_model.proofs.Paths.{same_name, name_itself}
+use Rattle.image_model.proofs.Paths.{same_name}
 
 abbrev pub Pieces : Type 0
 Pieces = List (Slot × List ℕ)

@@ -11,7 +11,6 @@ use Rattle.held_list.specs.declared.held.Held.{Held}
 use Rattle.image_model.specs.Nodes.{is_bad_directory}
 use Rattle.image_model.specs.Seen.{Seen}
 use Rattle.image_model.specs.Slots.{slots_of}
-use Rattle.image_model.specs.declared.finding.Finding.{Finding}
 use Rattle.image_model.specs.declared.finding.Finding.TheVariants.{BadDirectory}
 use Rattle.name_check.specs.Blocks.{blocks_held}
 use Rattle.name_check.specs.declared.blocks.NodeBlock.{NodeBlock}

@@ -37,7 +37,7 @@ directory_numbers ((n, Directory width height ptr) ∷ nodes) = n ∷ directory_
 pub record HoldsDirectories (s : Seen) (held : List Directories) : Type 0 where
   pub numbers : map (λ h. h.number) held ≡ directory_numbers s.nodes
   pub slots : (n : ℕ) (slots : List Slot) → slots_at held n ≡ Some slots → (k : ℕ) × (slots_of s n ≡ slots ++ replicate k slot.Unused)
-
+  pub widths : (n width height ptr : ℕ) (slots : List Slot) → Contains s.nodes (n, Directory width height ptr) → slots_at held n ≡ Some slots → length slots ≡ width
   pub others : (n : ℕ) → slots_at held n ≡ None → slots_of s n ≡ []
 
 -- each directory's width is within the limit

@@ -1,4 +1,4 @@
-//! What is wrong with files and directories: bytes behind a file's size, faults of directories, and nodes that make no tree.
+//! What is wrong with files and directories: bytes behind a file's size, and faults of directories.
 #![tactic(auto)]
 
 mod blocks;

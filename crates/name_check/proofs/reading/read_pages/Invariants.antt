@@ -1,4 +1,4 @@
-use Rattle.std.proofs.Common.{◌≡◌, IsTrue, length, map, take}
+use Rattle.std.proofs.Common.{◌≡◌, IsTrue, length, take}
 use Rattle.disk_model.specs.Past.{Adds}
 use Rattle.block_tree.specs.Tree.{blocks_in}
 use Rattle.name_check.specs.Directories.{HaveBytes}

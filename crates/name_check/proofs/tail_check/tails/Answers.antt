@@ -16,7 +16,7 @@ returns-then-branch-clause-found g c tells s same ends =
     let nodes = c.args.nodes.now in
     let k = c.loop-node.node-index in
     let bad : node_has_tail read last (get_or nodes k (0, Unused)) ≡ true =
-        ap (λ (st : State). node_has_tail (blocks_in st.contents) last (get_or nodes k (0, Unused))) (sym (c.loop-node.invariant.same tells)) ∙ sym (c.in_ok-is_bad.ensures.has tells) ∙ c.if-branch.true in
+    ap (λ (st : State). node_has_tail (blocks_in st.contents) last (get_or nodes k (0, Unused))) (sym (c.loop-node.invariant.same tells)) ∙ sym (c.in_ok-is_bad.ensures.has tells) ∙ c.if-branch.true in
     found_there (node_has_tail read last) BadTail nodes k (0, Unused) c.loop-node-test.true bad (c.loop-node.invariant.none tells) ∙ tails_seen read last s nodes same ends
 
 pub returns-clause-found : goal.returns-clause-found
