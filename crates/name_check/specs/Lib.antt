@@ -1,0 +1,5 @@
+pub mod Blocks
+pub mod Seeing
+pub mod Tails
+pub mod Directories
+pub mod Cause
