@@ -1,0 +1,4 @@
+pub mod Holding
+pub mod NodePlan
+pub mod PointPlan
+pub mod Laws
