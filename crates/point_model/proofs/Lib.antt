@@ -1,0 +1,4 @@
+mod Numbers
+mod Spelled
+mod Counted
+mod Placed

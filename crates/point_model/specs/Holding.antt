@@ -1,5 +1,5 @@
 -- What a volume holds between points: an image of the last point, and what was staged since.
-use Rattle.std.specs.Prelude.{◌≡◌, ℕ, zero, suc, ◌+◌, ◌==◌, ◌||◌, Bool, true, if◌then◌else◌, max, nat_le, List, [], ◌∷◌, ◌++◌, length, take, Option, Some, None, is_some, option_map}
+use Rattle.std.specs.Prelude.{◌≡◌, ◌⊎◌, ℕ, zero, suc, ◌+◌, ◌==◌, ◌||◌, Bool, true, false, if◌then◌else◌, max, nat_le, List, [], ◌∷◌, ◌++◌, length, take, Option, Some, None, is_some, option_map}
 use Rattle.std.specs.FinMap.{find}
 use Rattle.vol_numbers.specs.declared.block.Block.{Block}
 use Rattle.block_format.specs.declared.inode.Inode.{Inode}
@@ -95,6 +95,12 @@ pub record HoldsNumbers (node : ℕ → Option HeldNode) (tree : Tree) : Type 0 
 abbrev pub is_changed : Overlay → List Spot → Spot → Bool
 is_changed o dirty spot = has_spot dirty spot || nat_le (least_cut (node_of o spot.0)) spot.1
 
+-- whether a number is used, and if so, whether by a directory
+abbrev pub kind_of : Inode → Option Bool
+kind_of Unused = None
+kind_of (File size height ptr) = Some false
+kind_of (Directory width height ptr) = Some true
+
 -- An image of the last point and an overlay hold what a machine does: its dirty places with their bytes now, what it keeps of the
 -- places of the point, and its tree node by node.
 pub record HoldsMachine (old : List Block) (o : Overlay) (m : Machine) : Type 0 where
@@ -103,3 +109,5 @@ pub record HoldsMachine (old : List Block) (o : Overlay) (m : Machine) : Type 0 
   pub bytes : (spot : Spot) (block : Block) → find spot_cmp spot o.blocks ≡ Some block → block.bytes ≡ block_at m.tree spot
   pub kept : (spot : Spot) → find spot_cmp spot m.kept ≡ (if is_changed o m.dirty spot then None else find spot_cmp spot m.stored_places)
   pub nodes : HoldsNumbers (node_now old o) m.tree
+  -- a number of another kind than at the last point was cut to no block
+  pub renewed : (n : ℕ) → (kind_of (inode_now old o n) ≡ kind_of (inode_before old n)) ⊎ (least_cut (node_of o n) ≡ 0)
