@@ -2,3 +2,5 @@ mod Numbers
 mod Spelled
 mod Counted
 mod Placed
+mod Places
+mod FilePlaces
