@@ -4,3 +4,4 @@ mod Counted
 mod Placed
 mod Places
 mod FilePlaces
+mod FileBytes
