@@ -5,3 +5,4 @@ mod Placed
 mod Places
 mod FilePlaces
 mod FileBytes
+mod Nodes
