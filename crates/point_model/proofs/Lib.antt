@@ -6,3 +6,4 @@ mod Places
 mod FilePlaces
 mod FileBytes
 mod Nodes
+mod Assembled
