@@ -7,3 +7,4 @@ mod FilePlaces
 mod FileBytes
 mod Nodes
 mod Assembled
+mod OldBytes
