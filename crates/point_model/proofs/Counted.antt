@@ -151,7 +151,7 @@ all_balance m b old_top new_top added dropped old_of new_of added_of dropped_of 
     omega (arith, tops, sums, times_append b added (flat_map added_of (span 0 m)), times_append b dropped (flat_map dropped_of (span 0 m)), of_numbers b added_of (span 0 m), of_numbers b dropped_of (span 0 m))
 
 module _ (r : Rules) (old new : List Block) (o : Overlay) (m : Machine) (report : Report) (may : MayTake r old o m report) (plan : IsPlannedFor r old new o m report) where
-  old_counted : (b : ℕ) → pointers_to b (seen old).met ≡ times b (inode_pointers old) + total (λ k. times b (node_pointers old (inode_before old k))) (span 0 65536)
+  pub old_counted : (b : ℕ) → pointers_to b (seen old).met ≡ times b (inode_pointers old) + total (λ k. times b (node_pointers old (inode_before old k))) (span 0 65536)
   unfolding seen
   old_counted b =
       let read = blocks_in old in

@@ -8,3 +8,4 @@ mod FileBytes
 mod Nodes
 mod Assembled
 mod OldBytes
+mod OldPages
