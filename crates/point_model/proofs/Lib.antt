@@ -6,6 +6,7 @@ mod Places
 mod FilePlaces
 mod FileBytes
 mod Nodes
-mod Assembled
 mod OldBytes
 mod OldPages
+mod KeptPages
+mod Assembled

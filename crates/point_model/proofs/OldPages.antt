@@ -25,12 +25,12 @@ use Rattle.image_model.specs.Met.{metas, files, pointers_to}
 use Rattle.image_model.specs.Planned.{height_in}
 use Rattle.image_model.specs.Seen.{seen}
 use Rattle.image_model.specs.Slots.{slots_of as slots_seen}
-use Rattle.image_model.specs.Standing.{DirectoryStands}
 use Rattle.image_model.specs.Stands.{layout_in}
 use Rattle.image_model.proofs.Area.{no_faults as none_found, split_none, files_within}
 use Rattle.place_words.specs.Different.{is_among, times, span, total}
 use Rattle.place_words.proofs.Counting.{among_times}
 use Rattle.point_model.specs.Holding.{inode_before, slots_left, slot_now, slot_or, slots_from, slots_now, width_now, width_in}
+use Rattle.point_model.specs.OldPages.{PagesStand}
 use Rattle.point_model.specs.NodePlan.{block_of_place, node_pointers, is_kept_page, is_staged_page}
 use Rattle.point_model.proofs.FileBytes.{in_area, area_counted}
 use Rattle.point_model.proofs.Spelled.{lt_true, lt_false}
@@ -111,7 +111,7 @@ same_slot old o n place k at none = by (nat_lt k (width_now old o n)) refl
 
 -- ---- the page of a directory that stands
 
-page_kept : (old : List Block) (o : Overlay) (n place height ptr : ℕ) → DirectoryStands (blocks_in old) (slots_left old o n) height ptr → place < pages_for (length (slots_left old o n)) → is_staged_page o n place ≡ false
+pub page_kept : (old : List Block) (o : Overlay) (n place height ptr : ℕ) → PagesStand (blocks_in old) (slots_left old o n) height ptr → place < pages_for (length (slots_left old o n)) → is_staged_page o n place ≡ false
     → IsPage (slots_now old o n) place (blocks_in old (block_below (blocks_in old) height ptr place))
 page_kept old o n place height ptr stands lt none j less =
     let e : (16 * place + j) / 16 ≡ place = omega (arith, less) in
@@ -156,7 +156,7 @@ pointer_there image x place some = among_times (block_of_place image x place) (n
     there : is_among (map (λ (e : ℕ × ℕ). e.1) pairs) (block_of_place image x place) ≡ true
     there = subst (λ (b : ℕ). is_among (map (λ (e : ℕ × ℕ). e.1) pairs) b ≡ true) is (among_pairs pairs place (ap (λ (b : ℕ). b == 0) is ∙ some))
 
-one_of_total : (f : ℕ → ℕ) (first m n : ℕ) → first ≤ n → n < first + m → f n ≤ total f (span first m)
+pub one_of_total : (f : ℕ → ℕ) (first m n : ℕ) → first ≤ n → n < first + m → f n ≤ total f (span first m)
 one_of_total f first zero n le lt = absurd (omega (arith, le, lt))
 one_of_total f first (suc m) n le lt = by (first == n) refl (λ above. one_of_total f (first + 1) m n above (omega (arith, lt)))
   where

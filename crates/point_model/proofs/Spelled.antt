@@ -37,7 +37,7 @@ pub lt_false : (n k : ℕ) → nat_lt n k ≡ false → k ≤ n
 lt_false n k is = grind (arith, nat_tests)
 
 -- an image that meets no fault has no inode of a number from 65,536 on
-none_above : (image : List Block) → NoFaults (seen image).met → (n : ℕ) → 65536 ≤ n → inode_of (seen image).nodes n ≡ Unused
+pub none_above : (image : List Block) → NoFaults (seen image).met → (n : ℕ) → 65536 ≤ n → inode_of (seen image).nodes n ≡ Unused
 unfolding seen
 none_above image none n le = by (is_among (numbers nodes) n) refl
   where
