@@ -5,6 +5,7 @@ use Rattle.image_model.specs.Plan.{taken_in}
 use Rattle.point_model.specs.Laws.{PlannedHasPoint}
 use Rattle.point_model.proofs.Counted.{counts_new}
 use Rattle.point_model.proofs.FilePlaces.{places_new, files_new}
+use Rattle.point_model.proofs.DirectoriesStand.{directories_stand}
 use Rattle.point_model.proofs.KeptPages.{old_pages}
 use Rattle.point_model.proofs.OldBytes.{old_bytes}
 use Rattle.point_model.proofs.Nodes.{tails_new, directories_new, holds_new}
@@ -17,7 +18,7 @@ use Rattle.volume_model.proofs.PointSpace.{point_fits}
 pub has_point : PlannedHasPoint
 has_point r old new o m report may plan =
     let bytes = old_bytes old (stored m) may.stands may.coherent.mountable may.whole_blocks in
-    let pages = old_pages r old new o m report may plan may.pages in
+    let pages = old_pages r old new o m report may plan (directories_stand old may.stands.sound) in
     let layout = may.stands.layout ∙ sym plan.root.layout in
     record {
       root = plan.root.there;

@@ -9,4 +9,5 @@ mod Nodes
 mod OldBytes
 mod OldPages
 mod KeptPages
+mod DirectoriesStand
 mod Assembled

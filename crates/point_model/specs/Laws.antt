@@ -5,7 +5,6 @@ use Rattle.dirty_store.specs.Overlay.{Overlay}
 use Rattle.image_model.specs.Point.{HasPoint}
 use Rattle.image_model.specs.Stands.{Stands}
 use Rattle.point_model.specs.Holding.{HoldsMachine}
-use Rattle.point_model.specs.OldPages.{DirectoriesStand}
 use Rattle.point_model.specs.PointPlan.{HasWholeBlocks, PointIsPlanned}
 use Rattle.state_laws.specs.States.{IsCoherent}
 use Rattle.tree_model.specs.declared.report.Report.{Report}
@@ -19,7 +18,6 @@ use Rattle.volume_model.specs.Short.{is_short}
 pub record MayTake (r : Rules) (old : List Block) (o : Overlay) (m : Machine) (report : Report) : Type 0 where
   pub stands : Stands old (stored m)
   pub whole_blocks : HasWholeBlocks old
-  pub pages : DirectoriesStand old
   pub holds : HoldsMachine old o m
   pub coherent : IsCoherent r m
   pub is_report : IsReport r m report
