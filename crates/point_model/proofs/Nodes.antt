@@ -120,7 +120,7 @@ told_no_slots (Directory width height ptr) slots size e = cc
 module _ (r : Rules) (old new : List Block) (o : Overlay) (m : Machine) (report : Report) (may : MayTake r old o m report) (plan : IsPlannedFor r old new o m report)
     (old_bytes : (spot : Spot) (block : ℕ) → find spot_cmp spot m.stored_places ≡ Some block → blocks_in old block ≡ block_at m.stored_tree spot)
     (old_pages : (n place : ℕ) → kind_of (inode_now old o n) ≡ Some true → is_kept_page old o n place ≡ true
-        → IsPage (slots_now old o n) place (blocks_in old (block_of_place old (inode_before old n) place)) × IsLive old (block_of_place old (inode_before old n) place)) where
+    → IsPage (slots_now old o n) place (blocks_in old (block_of_place old (inode_before old n) place)) × IsLive old (block_of_place old (inode_before old n) place)) where
   none : NoFaults (seen new).met
   none = no_faults r old new o m report may plan
 
@@ -161,7 +161,7 @@ module _ (r : Rules) (old new : List Block) (o : Overlay) (m : Machine) (report 
           by place lt true kept =
               let was = old_pages n place kind kept in
               let same : blocks_in new (block_below (blocks_in new) height ptr place) ≡ blocks_in old (block_of_place old (inode_before old n) place) =
-                  ap (blocks_in new) (pages.kept place lt kept) ∙ bytes_same old new _ (plan.live _ was.1) in
+              ap (blocks_in new) (pages.kept place lt kept) ∙ bytes_same old new _ (plan.live _ was.1) in
               subst (IsPage (slots_now old o n) place) (sym same) was.0
 
   -- ---- files

@@ -116,7 +116,7 @@ module _ (hs : List Held) (n : ℕ) where
   whole_piece size place k le =
       let rest = bytes_from hs n (place + 1) k in
       let part : take 4096 (drop (4096 * place) (take size (bytes_from hs n 0 (place + suc k)))) ≡ piece place =
-          ap (take 4096) (rest_of size place k) ∙ take_less 4096 (size - 4096 * place) (piece place ++ rest) le ∙ take_at (piece place) rest 4096 (piece_long place) in
+      ap (take 4096) (rest_of size place k) ∙ take_less 4096 (size - 4096 * place) (piece place ++ rest) le ∙ take_at (piece place) rest 4096 (piece_long place) in
       let none : 4096 - length (piece place) ≡ 0 = omega (arith, piece_long place) in
       (λ i. part i ++ replicate (4096 - length (part i)) 0) ∙ (λ i. piece place ++ replicate (none i) 0) ∙ append-nil (piece place)
 
@@ -127,7 +127,7 @@ module _ (hs : List Held) (n : ℕ) where
       let rest = bytes_from hs n (place + 1) k in
       let short : left ≤ length (piece place) = omega (arith, piece_long place, le) in
       let part : take 4096 (drop (4096 * place) (take size (bytes_from hs n 0 (place + suc k)))) ≡ take left (piece place) =
-          ap (take 4096) (rest_of size place k) ∙ take_more 4096 left (piece place ++ rest) le ∙ take_front left (piece place) rest short in
+      ap (take 4096) (rest_of size place k) ∙ take_more 4096 left (piece place ++ rest) le ∙ take_front left (piece place) rest short in
       let long : length (take left (piece place)) ≡ left = omega (arith, length-take left (piece place), short) in
       let count : length (drop left (piece place)) ≡ 4096 - length (take left (piece place)) = omega (arith, length-drop left (piece place), piece_long place, long) in
       (λ i. part i ++ replicate (4096 - length (part i)) 0)
