@@ -1,0 +1,45 @@
+-- An image in which a point is planned has all that a point owes.
+use Rattle.std.proofs.Common.{◌≡◌, ℕ, ◌≤◌, Bool, true, false, List, Some, refl, sym, ap, subst, ◌∙◌}
+use Rattle.vol_numbers.specs.Layout.{Layout}
+use Rattle.image_model.specs.Plan.{taken_in}
+use Rattle.point_model.specs.Laws.{PlannedHasPoint}
+use Rattle.point_model.proofs.Counted.{counts_new}
+use Rattle.point_model.proofs.FilePlaces.{places_new, files_new}
+use Rattle.point_model.proofs.DirectoriesStand.{directories_stand}
+use Rattle.point_model.proofs.KeptPages.{old_pages}
+use Rattle.point_model.proofs.OldBytes.{old_bytes}
+use Rattle.point_model.proofs.Nodes.{tails_new, directories_new, holds_new}
+use Rattle.point_model.proofs.Spelled.{no_faults, leads}
+use Rattle.volume_model.specs.Machine.{stored}
+use Rattle.volume_model.specs.Point.{placed_after, fresh_in}
+use Rattle.volume_model.specs.Space.{free_blocks}
+use Rattle.volume_model.proofs.PointSpace.{point_fits}
+
+pub has_point : PlannedHasPoint
+has_point r old new o m report may plan =
+    let bytes = old_bytes old (stored m) may.stands may.coherent.mountable may.whole_blocks in
+    let pages = old_pages r old new o m report may plan (directories_stand old may.stands.sound) in
+    let layout = may.stands.layout ∙ sym plan.root.layout in
+    record {
+      root = plan.root.there;
+      fits = plan.root.fits;
+      layout = plan.root.layout;
+      stored_layout = layout;
+      point = sym plan.root.point;
+      log_empty = (refl, plan.root.records, plan.root.log_used);
+      for_metadata = taken_in plan.inodes_added plan.taken;
+      for_files = fresh_in report;
+      fresh = plan.free;
+      leads = record {
+        whole = no_faults r old new o m report may plan;
+        metas = leads r old new o m report may plan;
+        files = files_new r old new o m report may plan;
+      };
+      counts = counts_new r old new o m report may plan;
+      tails = tails_new r old new o m report may plan bytes pages;
+      directories = directories_new r old new o m report may plan bytes pages;
+      is_tree = may.coherent.tree;
+      holds = holds_new r old new o m report may plan bytes pages;
+      places = sym (places_new r old new o m report may plan);
+      reserve = subst (λ (g : Layout). 16 ≤ free_blocks g m.tree (placed_after r m (fresh_in report))) layout (point_fits r m (fresh_in report) may.is_report.positive may.is_report.whole may.is_report.point.may may.long);
+    }

@@ -1,0 +1,13 @@
+mod Numbers
+mod Spelled
+mod Counted
+mod Placed
+mod Places
+mod FilePlaces
+mod FileBytes
+mod Nodes
+mod OldBytes
+mod OldPages
+mod KeptPages
+mod DirectoriesStand
+mod Assembled

@@ -1,0 +1,165 @@
+-- The pages of directories that a point keeps.
+use Rattle.std.proofs.Common.{◌≡◌, ℕ, zero, suc, ◌+◌, ◌-◌, ◌*◌, ◌/◌, ◌<◌, ◌≤◌, Bool, true, false, not, cond, List, [], ◌∷◌, ◌++◌, map, length, take, Some, None, refl, sym, ap, subst, ◌∙◌, arith, slice_index_or, get_or}
+use Rattle.std.specs.Prelude.{◌==◌, ◌&&◌, ◌||◌, nat_eq, nat_lt, max, Option}
+use Rattle.std.specs.FinMap.{find}
+use Rattle.std.specs.List.{list_any}
+use Rattle.std.proofs.lemmas.Bool.{eqb-true}
+use Rattle.std.proofs.lemmas.Bool.Decides.{nat_tests}
+use Rattle.vol_numbers.specs.Layout.{Layout, area_start, count_blocks}
+use Rattle.vol_numbers.specs.declared.block.Block.{Block}
+use Rattle.block_format.specs.Inode.{pointer_of}
+use Rattle.block_format.specs.Slot.{slot_part, slot_bytes}
+use Rattle.block_format.specs.declared.inode.Inode.{Inode}
+use Rattle.block_format.specs.declared.inode.Inode.TheVariants.{Unused, File, Directory}
+use Rattle.block_format.specs.declared.slot.Slot.{Slot}
+use Rattle.block_format.specs.declared.slot.Slot.TheVariants as slots
+use Rattle.block_tree.specs.Tree.{blocks_in, block_in, block_below, pairs_below, indexes_below}
+use Rattle.block_tree.proofs.Pairs.{pairs_are}
+use Rattle.dir_slots.specs.Pages.{IsPage, pages_for}
+use Rattle.dir_slots.specs.Slots.{slot_at}
+use Rattle.dirty_store.specs.Entries.{Entries}
+use Rattle.dirty_store.specs.Overlay.{Overlay, node_of, least_cut, width_of}
+use Rattle.image_model.specs.Findings.{is_in_area}
+use Rattle.image_model.specs.Live.{IsLive, counted}
+use Rattle.image_model.specs.Met.{metas, files, pointers_to}
+use Rattle.image_model.specs.Planned.{height_in}
+use Rattle.image_model.specs.Seen.{seen}
+use Rattle.image_model.specs.Slots.{slots_of as slots_seen}
+use Rattle.image_model.specs.Stands.{layout_in}
+use Rattle.image_model.proofs.Area.{no_faults as none_found, split_none, files_within}
+use Rattle.place_words.specs.Different.{is_among, times, span, total}
+use Rattle.place_words.proofs.Counting.{among_times}
+use Rattle.point_model.specs.Holding.{inode_before, slots_left, slot_now, slot_or, slots_from, slots_now, width_now, width_in}
+use Rattle.point_model.specs.OldPages.{PagesStand}
+use Rattle.point_model.specs.NodePlan.{block_of_place, node_pointers, is_kept_page, is_staged_page}
+use Rattle.point_model.proofs.FileBytes.{in_area, area_counted}
+use Rattle.point_model.proofs.Spelled.{lt_true, lt_false}
+use Rattle.volume_model.specs.Places.{Spot, spot_cmp, spot_eq}
+use Rattle.volume_model.proofs.PlacesTold.{tie_is}
+
+-- ---- slots that aren't staged
+
+slot_in_list : (at : ℕ → Slot) (first n k : ℕ) → k < n → slot_at (slots_from at first n) k ≡ at (first + k)
+unfolding slots_from
+slot_in_list at first zero k lt = absurd (omega (arith, lt))
+slot_in_list at first (suc n) zero lt = let e : first ≡ first + zero = omega arith in ap at e
+slot_in_list at first (suc n) (suc k) lt = let e : (first + 1) + k ≡ first + suc k = omega arith in slot_in_list at (first + 1) n k (omega (arith, lt)) ∙ ap at e
+
+slot_past_list : (at : ℕ → Slot) (first n k : ℕ) → n ≤ k → slot_at (slots_from at first n) k ≡ slots.Unused
+unfolding slots_from
+slot_past_list at first zero k le = refl
+slot_past_list at first (suc n) zero le = absurd (omega (arith, le))
+slot_past_list at first (suc n) (suc k) le = slot_past_list at (first + 1) n k (omega (arith, le))
+
+slot_past : (ss : List Slot) (k : ℕ) → length ss ≤ k → slot_at ss k ≡ slots.Unused
+slot_past [] k le = refl
+slot_past (s ∷ ss) zero le = absurd (omega (arith, le))
+slot_past (s ∷ ss) (suc k) le = slot_past ss k (omega (arith, le))
+
+not_staged : (es : Entries Slot) (n place k : ℕ) → k / 16 ≡ place → list_any (λ e. e.0.0 == n && e.0.1 / 16 == place) es ≡ false → find spot_cmp (n, k) es ≡ None
+not_staged [] n place k at none = refl
+not_staged (e ∷ es) n place k at none =
+    ap (λ (t : Bool). cond t (Some e.1) (find spot_cmp (n, k) es)) (tie_is (n, k) e.0) ∙ by (spot_eq e.0 (n, k)) refl none (not_staged es n place k at)
+  where
+    same : (a b : ℕ) → nat_eq a b ≡ true → a ≡ b
+    same a b is = grind (arith, nat_tests)
+
+    itself : (a : ℕ) → (a == a) ≡ true
+    itself a = grind (arith, nat_tests)
+
+    first_of : (a b : Bool) → (a && b) ≡ true → a ≡ true
+    first_of true b e = refl
+    first_of false b e = cc
+
+    second_of : (a b : Bool) → (a && b) ≡ true → b ≡ true
+    second_of true b e = e
+    second_of false b e = cc
+
+    here : spot_eq e.0 (n, k) ≡ true → (e.0.0 == n && e.0.1 / 16 == place) ≡ true
+    here is =
+        let number = same e.0.0 n (first_of _ _ is) in
+        let slot = same e.0.1 k (second_of (nat_eq e.0.0 n) _ is) in
+        (λ i. number i == n && slot i / 16 == place) ∙ (λ i. itself n i && at i == place) ∙ itself place
+
+    rest : (a b : Bool) → (a || b) ≡ false → b ≡ false
+    rest true b e = cc
+    rest false b e = e
+
+    own : (a b : Bool) → (a || b) ≡ false → a ≡ true → ⊥
+    own true b e is = cc
+    own false b e is = cc
+
+    by : (t : Bool) → spot_eq e.0 (n, k) ≡ t → ((e.0.0 == n && e.0.1 / 16 == place) || list_any (λ e. e.0.0 == n && e.0.1 / 16 == place) es) ≡ false
+        → (list_any (λ e. e.0.0 == n && e.0.1 / 16 == place) es ≡ false → find spot_cmp (n, k) es ≡ None) → cond t (Some e.1) (find spot_cmp (n, k) es) ≡ None
+    by true is none more = absurd (own _ _ none (here is))
+    by false is none more = more (rest _ _ none)
+
+-- a slot of a page of which none is staged is what it was
+same_slot : (old : List Block) (o : Overlay) (n place k : ℕ) → k / 16 ≡ place → is_staged_page o n place ≡ false → slot_at (slots_now old o n) k ≡ slot_at (slots_left old o n) k
+same_slot old o n place k at none = by (nat_lt k (width_now old o n)) refl
+  where
+    by : (t : Bool) → nat_lt k (width_now old o n) ≡ t → slot_at (slots_now old o n) k ≡ slot_at (slots_left old o n) k
+    by true is =
+        let e : 0 + k ≡ k = omega arith in
+        slot_in_list (slot_now old o n) 0 (width_now old o n) k (lt_true k (width_now old o n) is) ∙ ap (slot_now old o n) e ∙ ap (λ s. slot_or s (slot_at (slots_left old o n) k)) (not_staged o.slots n place k at none)
+    by false is =
+        let past = lt_false k (width_now old o n) is in
+        slot_past_list (slot_now old o n) 0 (width_now old o n) k past ∙ sym (slot_past (slots_left old o n) k (shorter (length (slots_left old o n)) (width_of o.slots n) k past))
+      where
+        shorter : (a b c : ℕ) → max a b ≤ c → a ≤ c
+        shorter a b c le = omega (arith, le)
+
+-- ---- the page of a directory that stands
+
+pub page_kept : (old : List Block) (o : Overlay) (n place height ptr : ℕ) → PagesStand (blocks_in old) (slots_left old o n) height ptr → place < pages_for (length (slots_left old o n)) → is_staged_page o n place ≡ false
+    → IsPage (slots_now old o n) place (blocks_in old (block_below (blocks_in old) height ptr place))
+page_kept old o n place height ptr stands lt none j less =
+    let e : (16 * place + j) / 16 ≡ place = omega (arith, less) in
+    stands.spelled place lt j less ∙ ap slot_bytes (sym (same_slot old o n place (16 * place + j) e none))
+
+-- ---- its block is live
+
+among_pairs : (es : List (ℕ × ℕ)) (place : ℕ) → (block_in es place == 0) ≡ false → is_among (map (λ (e : ℕ × ℕ). e.1) es) (block_in es place) ≡ true
+among_pairs [] place some = cc
+among_pairs (e ∷ es) place some = by (e.0 == place) some (among_pairs es place)
+  where
+    itself : (a : ℕ) → nat_eq a a ≡ true
+    itself a = grind (arith, nat_tests)
+
+    or_later : (a b : Bool) → b ≡ true → (a || b) ≡ true
+    or_later true b e = refl
+    or_later false b e = e
+
+    by : (t : Bool) → (cond t e.1 (block_in es place) == 0) ≡ false → ((block_in es place == 0) ≡ false → is_among (map (λ (e : ℕ × ℕ). e.1) es) (block_in es place) ≡ true)
+        → (nat_eq e.1 (cond t e.1 (block_in es place)) || is_among (map (λ (e : ℕ × ℕ). e.1) es) (cond t e.1 (block_in es place))) ≡ true
+    by true some more = ap (λ (t : Bool). t || is_among (map (λ (e : ℕ × ℕ). e.1) es) e.1) (itself e.1)
+    by false some more = or_later (nat_eq e.1 (block_in es place)) _ (more some)
+
+among_behind : (xs ys : List ℕ) (b : ℕ) → is_among ys b ≡ true → is_among (xs ++ ys) b ≡ true
+among_behind [] ys b is = is
+among_behind (x ∷ xs) ys b is = or_later (nat_eq x b) _ (among_behind xs ys b is)
+  where
+    or_later : (a b : Bool) → b ≡ true → (a || b) ≡ true
+    or_later true b e = refl
+    or_later false b e = e
+
+-- the block of a place is among a node's pointers
+pub pointer_there : (image : List Block) (x : Inode) (place : ℕ) → (block_of_place image x place == 0) ≡ false → 1 ≤ times (block_of_place image x place) (node_pointers image x)
+pointer_there image x place some = among_times (block_of_place image x place) (node_pointers image x) (among_behind (indexes_below (blocks_in image) (height_in x) (pointer_of x)) (map (λ (e : ℕ × ℕ). e.1) pairs) (block_of_place image x place) there)
+  where
+    pairs : List (ℕ × ℕ)
+    pairs = pairs_below (blocks_in image) (height_in x) (pointer_of x)
+
+    is : block_in pairs place ≡ block_of_place image x place
+    is = pairs_are (blocks_in image) (height_in x) (pointer_of x) place
+
+    there : is_among (map (λ (e : ℕ × ℕ). e.1) pairs) (block_of_place image x place) ≡ true
+    there = subst (λ (b : ℕ). is_among (map (λ (e : ℕ × ℕ). e.1) pairs) b ≡ true) is (among_pairs pairs place (ap (λ (b : ℕ). b == 0) is ∙ some))
+
+pub one_of_total : (f : ℕ → ℕ) (first m n : ℕ) → first ≤ n → n < first + m → f n ≤ total f (span first m)
+one_of_total f first zero n le lt = absurd (omega (arith, le, lt))
+one_of_total f first (suc m) n le lt = by (first == n) refl (λ above. one_of_total f (first + 1) m n above (omega (arith, lt)))
+  where
+    by : (t : Bool) → (first == n) ≡ t → (first + 1 ≤ n → f n ≤ total f (span (first + 1) m)) → f n ≤ total f (span first (suc m))
+    by true is more = let e : first ≡ n = eqb-true first n is in let same = ap f e in omega (arith, same)
+    by false is more = let above : first + 1 ≤ n = grind (arith, nat_tests) in omega (arith, more above)

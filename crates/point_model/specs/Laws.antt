@@ -1,0 +1,48 @@
+-- Laws of planned points.
+use Rattle.std.specs.Prelude.{◌≡◌, ℕ, false, List, Some}
+use Rattle.std.specs.FinMap.{find}
+use Rattle.vol_numbers.specs.declared.block.Block.{Block}
+use Rattle.block_tree.specs.Tree.{blocks_in}
+use Rattle.dirty_store.specs.Overlay.{Overlay}
+use Rattle.image_model.specs.Point.{HasPoint}
+use Rattle.image_model.specs.Stands.{Stands}
+use Rattle.point_model.specs.Holding.{HoldsMachine}
+use Rattle.point_model.specs.OldPages.{DirectoriesStand}
+use Rattle.point_model.specs.PointPlan.{HasWholeBlocks, PointIsPlanned}
+use Rattle.state_laws.specs.States.{IsCoherent, IsMountable}
+use Rattle.tree_model.specs.declared.report.Report.{Report}
+use Rattle.volume_model.specs.Machine.{Machine, Rules, Stored, stored, block_at}
+use Rattle.volume_model.specs.Places.{Spot, spot_cmp}
+use Rattle.volume_model.specs.Point.{after_point, placed_after, fresh_in}
+use Rattle.volume_model.specs.ReportLaws.{IsReport}
+use Rattle.volume_model.specs.Short.{is_short}
+
+-- What holds where a point is taken: the old image stands for what the machine stores, it and the overlay hold what the machine does,
+-- the machine is coherent, the report is one of its points, and the point isn't short.
+pub record MayTake (r : Rules) (old : List Block) (o : Overlay) (m : Machine) (report : Report) : Type 0 where
+  pub stands : Stands old (stored m)
+  pub whole_blocks : HasWholeBlocks old
+  pub holds : HoldsMachine old o m
+  pub coherent : IsCoherent r m
+  pub is_report : IsReport r m report
+  pub long : is_short m ≡ false
+
+-- the plan of the point of a report
+abbrev pub IsPlannedFor : Rules → List Block → List Block → Overlay → Machine → Report → Type 0
+IsPlannedFor r old new o m report = PointIsPlanned old new o m (placed_after r m (fresh_in report)) (fresh_in report)
+
+-- An image in which a point is planned has all that a point owes.
+abbrev pub PlannedHasPoint : Type 0
+PlannedHasPoint = (r : Rules) (old new : List Block) (o : Overlay) (m : Machine) (report : Report) → MayTake r old o m report → IsPlannedFor r old new o m report
+    → HasPoint old new (stored (after_point r m (fresh_in report)))
+
+-- ---- what an image of the last point has
+
+-- Each block of a file holds the bytes of its places.
+abbrev pub BlocksHoldBytes : Type 0
+BlocksHoldBytes = (image : List Block) (s : Stored) → Stands image s → IsMountable s → HasWholeBlocks image → (spot : Spot) (block : ℕ) → find spot_cmp spot s.places ≡ Some block
+    → blocks_in image block ≡ block_at s.tree spot
+
+-- The pages of each directory are there, and spell its slots.
+abbrev pub PagesAreSpelled : Type 0
+PagesAreSpelled = (image : List Block) (s : Stored) → Stands image s → DirectoriesStand image

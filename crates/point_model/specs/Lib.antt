@@ -1,0 +1,5 @@
+pub mod Holding
+pub mod OldPages
+pub mod NodePlan
+pub mod PointPlan
+pub mod Laws

@@ -1,0 +1,17 @@
+//! Laws of planned points.
+ghost use Rattle.point_model.specs.Laws.{BlocksHoldBytes, PagesAreSpelled, PlannedHasPoint};
+
+/// An image in which a point is planned has all that a point owes.
+pub fn planned_has_point()
+    ensures { PlannedHasPoint }
+{}
+
+/// In an image that stands for something, each block of a file holds the bytes of its places.
+pub fn blocks_hold_bytes()
+    ensures { BlocksHoldBytes }
+{}
+
+/// In an image that stands for something, the pages of each directory are there, and spell its slots.
+pub fn pages_are_spelled()
+    ensures { PagesAreSpelled }
+{}

@@ -1,0 +1,6 @@
+//! What a volume holds between consistency points, and that a planned point has what a point owes.
+#![tactic(auto)]
+
+mod laws;
+
+pub use laws::{blocks_hold_bytes, pages_are_spelled, planned_has_point};
