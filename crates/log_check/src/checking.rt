@@ -57,8 +57,10 @@ pub fn check_log<D: Disk>(
     ensures cause { HasCheckCause (D.faults disk.old) (D.faults disk.new) result }
 {
     let front = read_front(alloc, disk, body)?;
-    accept_each(front.commands.as_slice(), nodes, free)?;
-    if_whole(front, body)
+    match accept_each(front.commands.as_slice(), nodes, free) {
+        Ok(()) => if_whole(front, body),
+        Err(fault) => Err(fault),
+    }
 }
 
 /// The commands, if none of the records is bad and they fill the used blocks.
