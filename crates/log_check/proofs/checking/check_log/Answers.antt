@@ -20,12 +20,12 @@ returns-in-Err-clause-found g c =
     found_map {T = List Command} (Err c.in-Err.fault) (IsRefusedAt c.args.free c.args.nodes.now c.in_ok-front.front.commands)
     (λ i. IsTrue g.D.Disk.tells → (s : Stored) → IsShown (g.D.Disk.state c.args.disk.now).contents c.args.nodes.now c.args.free s → IsBadLog (g.D.Disk.state c.args.disk.now).contents i)
     (λ i at tell s shown. refused_bad g.D.Disk.tells (g.D.Disk.state c.args.disk.now).contents c.args.body.now c.in_ok-front.front tell c.in_ok-front.ensures.front (c.requires.root tell) c.args.free c.args.nodes.now s shown i at)
-    (found_same {S = Unit {0}} {T = List Command} c.in-Err.fault (IsRefusedAt c.args.free c.args.nodes.now c.in_ok-front.front.commands) refused)
+    (found_same (Unit {0}) (List Command) c.in-Err.fault (IsRefusedAt c.args.free c.args.nodes.now c.in_ok-front.front.commands) refused)
 
 pub returns-in-Err-clause-cause : goal.returns-in-Err-clause-cause
 returns-in-Err-clause-cause g c =
     cause_moved {T = List Command} (Err c.in-Err.fault) (g.D.Disk.faults c.args.disk.now) (g.D.Disk.faults c.read_front.new.disk) c.in_ok-front.ensures.cause
-    (λ count. cause_same {S = Unit {0}} {T = List Command} c.in-Err.fault count (c.in-Err.ensures.no_fault count))
+    (λ count. cause_same (Unit {0}) (List Command) c.in-Err.fault count (c.in-Err.ensures.no_fault count))
 
 pub returns-in-Ok-clause-found : goal.returns-in-Ok-clause-found
 returns-in-Ok-clause-found g c =
