@@ -1,24 +1,21 @@
 -- Commands that are accepted in turn.
-use Rattle.std.proofs.Common.{◌≡◌, ◌∙◌, ◌<◌, ◌≤◌, ◌+◌, ℕ, zero, suc, true, false, List, [], ◌∷◌, ◌++◌, length, get_or, take, Option, Some, None, refl, sym, ap, subst, arith, add-one}
-use Rattle.std.specs.Prelude.{is_some, All, Bool, IsTrue}
+use Rattle.std.proofs.Common.{◌≡◌, ◌∙◌, ◌<◌, ◌≤◌, ◌+◌, ℕ, zero, suc, true, false, List, [], ◌∷◌, ◌++◌, length, get_or, take, Option, Some, None, refl, sym, ap, subst, arith}
+use Rattle.std.specs.Prelude.{is_some, Bool, IsTrue}
 use Rattle.tree_model.specs.Shape.{IsTree}
 use Rattle.tree_model.specs.Step.{step, refusal_of, is_change}
 use Rattle.tree_model.specs.Tree.{Tree}
 use Rattle.tree_model.specs.declared.command.Command.{Command}
-use Rattle.tree_model.specs.declared.command.Command.TheVariants.{Mkdir, Create, Write, Truncate, Remove, Rename, Read, List as ListOf, Stat, Layout, Space, Checkpoint, End}
 use Rattle.tree_model.specs.declared.refusal.Refusal.{Refusal}
-use Rattle.tree_model.specs.declared.reply.Reply.{Reply}
 use Rattle.tree_model.specs.declared.reply.Reply.TheVariants.{Done}
 use Rattle.tree_model.proofs.RefusalLaws.{refusal_tells, changes_are_done}
 use Rattle.tree_model.proofs.RenameLaws.{keeps_trees}
-use Rattle.op_log.specs.Record.{HasRecord}
 use Rattle.space_account.specs.Charge.{charge, need, pending}
 use Rattle.volume_model.specs.Done.{all_done, done, mounted}
 use Rattle.volume_model.specs.Machine.{Machine, Stored, at_point}
 use Rattle.image_model.specs.Stands.{Accepts}
 use Rattle.image_model.proofs.NextLaws.{accepted_more}
 use Rattle.node_table.specs.Held.{Nodes, HoldsNodes}
-use Rattle.log_check.specs.Accepting.{HoldsATree, IsTaken, TakesEach, TakesNext, TakesNot, IsCharged, IsRefusedAt, with_records}
+use Rattle.log_check.specs.Accepting.{HoldsATree, IsTaken, TakesNext, TakesNot, IsCharged, IsRefusedAt, with_records}
 
 -- a refused command isn't done
 refused_not : (tree : Tree) (command : Command) (o : Option Refusal) → o ≡ refusal_of tree command → is_some o ≡ true → (step tree command).0 ≡ Done → ⊥

@@ -1,6 +1,6 @@
 -- What is found in a log.
 use Rattle.std.proofs.Common.{◌≡◌, ◌∙◌, ◌<◌, ◌≤◌, ◌+◌, inl, inr, ℕ, zero, suc, Bool, List, [], ◌∷◌, ◌++◌, length, take, Option, Some, None, refl, sym, ap, subst, arith, length-append}
-use Rattle.std.specs.Prelude.{IsTrue, IfSome, IfNone, ◌⊎◌}
+use Rattle.std.specs.Prelude.{IsTrue, IfSome, IfNone}
 use Rattle.vol_numbers.specs.Layout.{log_start}
 use Rattle.vol_numbers.specs.declared.block.Block.{Block}
 use Rattle.block_format.specs.declared.root.RootBody.{RootBody}
@@ -11,7 +11,6 @@ use Rattle.op_log.specs.Log.{HoldsRecords, RecordsStand, IsFirstBad, blocks_of}
 use Rattle.op_log.specs.Record.{record_blocks}
 use Rattle.op_log.proofs.LogLemmas.{one_log}
 use Rattle.volume_model.specs.Machine.{Stored}
-use Rattle.volume_model.specs.Space.{free_blocks}
 use Rattle.image_model.specs.Finds.{HasAccepted, IsBadLog}
 use Rattle.image_model.specs.Stands.{Accepts, Logs, layout_in, records_in, used_in}
 use Rattle.node_table.specs.Held.{Nodes}

@@ -1,6 +1,7 @@
 //! Does the commands of records in turn, as long as they are accepted.
-ghost use Rattle.std.specs.Prelude.{◌≡◌, ◌≤◌, ℕ, All, true, length, IfOk, OnOk, IsTrue};
+ghost use Rattle.std.specs.Prelude.{◌≡◌, ◌≤◌, ◌↔◌, ◌+◌, ℕ, All, true, length, IfOk, OnOk, IsTrue};
 ghost use Rattle.op_log.specs.Record.{HasRecord};
+ghost use Rattle.space_account.specs.Charge.{need};
 ghost use Rattle.tree_model.specs.Step.{is_change};
 ghost use Rattle.log_check.specs.Accepting.{HoldsATree, TakesEach, TakesNext, TakesNot, IsRefusedAt};
 ghost use Rattle.log_check.specs.Cause.{IfFound, HasCheckCause};
@@ -51,9 +52,17 @@ fn accept(
     if nodes.refusal(command).is_some() {
         return Ok(false);
     }
-    if !fits(free, charged, charge(command), reserve(command)) {
+    if !has_room(command, free, charged) {
         return Ok(false);
     }
     nodes.change(command)?;
     Ok(true)
+}
+
+/// Whether a command's charge and its reserve fit beside what is charged.
+fn has_room(command: &Command, free: u32, charged: u32) -> bool
+    requires change { is_change command.now ≡ true }
+    ensures { IsTrue result ↔ (charged + need command.now ≤ free) }
+{
+    fits(free, charged, charge(command), reserve(command))
 }

@@ -1,5 +1,4 @@
-use Rattle.std.proofs.Common.{◌≡◌, ◌∙◌, ◌+◌, ◌≤◌, sym, arith}
-use Rattle.space_account.specs.Charge.{need}
+use Rattle.std.proofs.Common.{◌∙◌, sym}
 use Rattle.log_check.specs.Accepting.{TakesNext}
 use Rattle.log_check.proofs.AcceptLemmas.{not_taken, taken_next, still_holds}
 use Rattle.log_check.proofs.accepting.accept.Goals as goal
@@ -9,9 +8,8 @@ returns-then-is_some-clause-refused c = λ _. not_taken c.args.free c.args.charg
 
 does_it : (c : goal.In_ok-change) → TakesNext c.args.free c.args.charged c.args.nodes.now c.args.command.now c.change.new.self
 does_it c =
-    let fits = c.fits.ensures.0 c.if-not-fits.false in
     taken_next c.args.free c.args.charged c.args.nodes.now c.change.new.self c.args.command.now c.refusal.result c.requires.change c.refusal.ensures (sym c.is_some.ensures ∙ c.if-is_some.false)
-    (omega (arith, fits, c.charge.ensures.is, c.reserve.ensures.is)) c.in_ok-change.ensures.holds
+    (c.has_room.ensures.0 c.if-not-has_room.false) c.in_ok-change.ensures.holds
 
 pub returns-clause-takes : goal.returns-clause-takes
 returns-clause-takes c = λ _. does_it c

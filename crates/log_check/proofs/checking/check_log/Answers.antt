@@ -1,12 +1,11 @@
-use Rattle.std.proofs.Common.{◌≡◌, ℕ, All, List, subst}
-use Rattle.std.specs.Prelude.{Result, Err, IsTrue}
+use Rattle.std.proofs.Common.{List, subst}
+use Rattle.std.specs.Prelude.{Err, IsTrue}
 use Rattle.tree_model.specs.declared.command.Command.{Command}
-use Rattle.op_log.specs.Record.{HasRecord}
 use Rattle.volume_model.specs.Machine.{Stored}
 use Rattle.image_model.specs.Finds.{IsBadLog}
 use Rattle.image_model.specs.Stands.{Logs}
 use Rattle.log_check.specs.Accepting.{IsShown, TakesEach, IsRefusedAt, with_records}
-use Rattle.log_check.specs.Cause.{IfFound, HasCheckCause}
+use Rattle.log_check.specs.Cause.{IfFound}
 use Rattle.log_check.specs.Reading.{IsWhole, IsPart}
 use Rattle.log_check.specs.declared.fault.LogCheckFault.{LogCheckFault}
 use Rattle.log_check.proofs.LogLemmas.{all_logs, refused_bad, part_bad}
