@@ -1,0 +1,3 @@
+pub mod AcceptLemmas
+pub mod LogLemmas
+pub mod ResultLemmas

@@ -1,0 +1,10 @@
+//! The last phase of the check of a volume: whether the tree accepts each record of the log, beside the charges of those before it.
+#![tactic(auto)]
+
+mod accepting;
+mod checking;
+mod fault;
+mod reading;
+
+pub use checking::check_log;
+pub use fault::LogCheckFault;
