@@ -12,7 +12,7 @@ use Rattle.tree_model.proofs.RenameLaws.{keeps_trees}
 use Rattle.space_account.specs.Charge.{charge, need, pending}
 use Rattle.volume_model.specs.Done.{all_done, done, mounted}
 use Rattle.volume_model.specs.Machine.{Machine, Stored, at_point}
-use Rattle.image_model.specs.Stands.{Accepts}
+use Rattle.volume_model.specs.Accepted.{Accepts}
 use Rattle.image_model.proofs.NextLaws.{accepted_more}
 use Rattle.node_table.specs.Held.{Nodes, HoldsNodes}
 use Rattle.log_check.specs.Accepting.{HoldsATree, IsTaken, TakesNext, TakesNot, IsCharged, IsRefusedAt, with_records}

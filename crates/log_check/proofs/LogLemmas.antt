@@ -12,7 +12,8 @@ use Rattle.op_log.specs.Record.{record_blocks}
 use Rattle.op_log.proofs.LogLemmas.{one_log}
 use Rattle.volume_model.specs.Machine.{Stored}
 use Rattle.image_model.specs.Finds.{HasAccepted, IsBadLog}
-use Rattle.image_model.specs.Stands.{Accepts, Logs, layout_in, records_in, used_in}
+use Rattle.image_model.specs.Stands.{Logs, layout_in, records_in, used_in}
+use Rattle.volume_model.specs.Accepted.{Accepts}
 use Rattle.node_table.specs.Held.{Nodes}
 use Rattle.log_check.specs.Accepting.{IsShown, TakesEach, IsRefusedAt, with_records}
 use Rattle.log_check.specs.Reading.{ReadsFront, IsWhole, IsPart}

@@ -11,7 +11,8 @@ use Rattle.volume_model.specs.Done.{mounted}
 use Rattle.volume_model.specs.Machine.{Stored}
 use Rattle.volume_model.specs.Space.{free_blocks}
 use Rattle.image_model.specs.Seen.{seen}
-use Rattle.image_model.specs.Stands.{Shows, Accepts, layout_in}
+use Rattle.image_model.specs.Stands.{Shows, layout_in}
+use Rattle.volume_model.specs.Accepted.{Accepts}
 use Rattle.node_table.specs.Held.{Nodes, HoldsNodes}
 
 -- the table holds some tree

@@ -17,7 +17,7 @@ use Rattle.dir_slots.specs.Pages.{IsPage, pages_for, bytes_at, SpellsDirectory}
 use Rattle.dir_slots.specs.Slots.{slot_at, is_used as is_entry, name_of, HasNamesOnce}
 use Rattle.place_words.specs.Different.{span}
 use Rattle.image_model.specs.Nodes.{is_slot_spelled, is_empty, has_twin}
-use Rattle.image_model.specs.Seen.{Held}
+use Rattle.image_model.specs.Seen.{SeenBlock}
 use Rattle.image_model.specs.Slots.{slots_from, slot_pieces}
 use Rattle.name_check.specs.Blocks.{block_held, blocks_held}
 use Rattle.name_check.specs.Directories.{is_bad, HaveBytes, IsRead, IsBad, FindsBad, FindsNone}
@@ -51,7 +51,7 @@ pages_in (p ∷ ps) = ap (λ (rest : Pieces). slots_from 16 p.block.bytes ++ res
 module _ (read : Blocks) (n : ℕ) where
   counted : (pages : List NodeBlock) → count_by (λ h. h.number == n) (blocks_held read pages) ≡ length (own n pages)
   counted [] = refl
-  counted (b ∷ bs) = sum_by-cons (λ (h : Held). cond (h.number == n) 1 0) (block_held read b) (blocks_held read bs) ∙ by (nat_eq b.number n) (counted bs)
+  counted (b ∷ bs) = sum_by-cons (λ (h : SeenBlock). cond (h.number == n) 1 0) (block_held read b) (blocks_held read bs) ∙ by (nat_eq b.number n) (counted bs)
     where
       by : (t : Bool) → count_by (λ h. h.number == n) (blocks_held read bs) ≡ length (own n bs) → cond t 1 0 + count_by (λ h. h.number == n) (blocks_held read bs) ≡ length (cond t (b ∷ own n bs) (own n bs))
       by true more = omega (arith, more)

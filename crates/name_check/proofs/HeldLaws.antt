@@ -12,7 +12,7 @@ use Rattle.held_list.specs.Held.{AllBelow, slots_at}
 use Rattle.held_list.specs.declared.held.Held.{Held}
 use Rattle.place_words.specs.Rising.{Rising, AllUnder}
 use Rattle.image_model.specs.Nodes.{first_node, is_bad_directory, directory_finding}
-use Rattle.image_model.specs.Seen.{Seen, Held as Blocks_held}
+use Rattle.image_model.specs.Seen.{Seen, SeenBlock as Blocks_held}
 use Rattle.image_model.specs.Slots.{slots_of, inode_of}
 use Rattle.image_model.specs.Walk.{is_directory}
 use Rattle.image_model.specs.declared.finding.Finding.{Finding}

@@ -1,14 +1,14 @@
 -- Blocks of files and directories.
 use Rattle.std.specs.Prelude.{ℕ, ◌<◌, ◌≤◌, List, map, length, slice_index_or}
 use Rattle.block_tree.specs.Tree.{Blocks}
-use Rattle.image_model.specs.Seen.{Held}
+use Rattle.image_model.specs.Seen.{SeenBlock}
 use Rattle.name_check.specs.declared.blocks.NodeBlock.{NodeBlock}
 
 -- a block with its bytes
-abbrev pub block_held : Blocks → NodeBlock → Held
+abbrev pub block_held : Blocks → NodeBlock → SeenBlock
 block_held read b = record { number = b.number; place = b.place; block = b.block; bytes = read b.block }
 
-abbrev pub blocks_held : Blocks → List NodeBlock → List Held
+abbrev pub blocks_held : Blocks → List NodeBlock → List SeenBlock
 blocks_held read blocks = map (block_held read) blocks
 
 -- the node of the block at a place of a list

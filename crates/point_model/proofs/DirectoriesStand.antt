@@ -23,7 +23,7 @@ use Rattle.dir_slots.specs.Slots.{slot_at}
 use Rattle.image_model.specs.Met.{Met, index, page, content, NoFaults}
 use Rattle.image_model.specs.Nodes.{AllBelow, blocks_in_node, is_bad_directory, is_slot_spelled, is_empty}
 use Rattle.image_model.specs.Planned.{node_trees}
-use Rattle.image_model.specs.Seen.{Held, seen, all_held, page_held}
+use Rattle.image_model.specs.Seen.{SeenBlock, seen, all_held, page_held}
 use Rattle.image_model.specs.Slots.{inode_of, slot_pieces, slots_from, slots_of}
 use Rattle.image_model.specs.Sound.{IsSound}
 use Rattle.image_model.specs.Stands.{layout_in}
@@ -43,7 +43,7 @@ use Rattle.point_model.proofs.Spelled.{lt_true}
 abbrev pieces_in : Blocks → List (ℕ × ℕ) → List (Slot × List ℕ)
 pieces_in read pairs = flat_map (λ (e : ℕ × ℕ). slots_from 16 (read e.1)) pairs
 
-pieces_append : (xs ys : List Held) (n : ℕ) → slot_pieces (xs ++ ys) n ≡ slot_pieces xs n ++ slot_pieces ys n
+pieces_append : (xs ys : List SeenBlock) (n : ℕ) → slot_pieces (xs ++ ys) n ≡ slot_pieces xs n ++ slot_pieces ys n
 pieces_append [] ys n = refl
 pieces_append (h ∷ hs) ys n = by (h.number == n) (pieces_append hs ys n)
   where
@@ -64,13 +64,13 @@ module _ (read : Blocks) (n : ℕ) where
   other m apart (e ∷ es) = λ i. cond (apart i) (slots_from 16 (read e.1)) [] ++ other m apart es i
 
   met_append : (xs ys : List Met) → pieces (xs ++ ys) ≡ pieces xs ++ pieces ys
-  met_append xs ys = ap (λ (hs : List Held). slot_pieces hs n) (held_append (page_held read) xs ys) ∙ pieces_append (all_held (page_held read) xs) (all_held (page_held read) ys) n
+  met_append xs ys = ap (λ (hs : List SeenBlock). slot_pieces hs n) (held_append (page_held read) xs ys) ∙ pieces_append (all_held (page_held read) xs) (all_held (page_held read) ys) n
 
   none_indexes : (bs : List ℕ) → pieces (map index bs) ≡ []
-  none_indexes bs = ap (λ (hs : List Held). slot_pieces hs n) (no_pages read bs)
+  none_indexes bs = ap (λ (hs : List SeenBlock). slot_pieces hs n) (no_pages read bs)
 
   none_contents : (m : ℕ) (pairs : List (ℕ × ℕ)) → pieces (map (λ (e : ℕ × ℕ). content m e.0 e.1) pairs) ≡ []
-  none_contents m pairs = ap (λ (hs : List Held). slot_pieces hs n) (file_pages read m pairs)
+  none_contents m pairs = ap (λ (hs : List SeenBlock). slot_pieces hs n) (file_pages read m pairs)
 
   node_own : (node : ℕ × Inode) → nat_eq node.0 n ≡ true → pieces (node_trees read node) ≡ pieces_in read (directory_pairs read node.1)
   node_own (m, Unused) same = refl

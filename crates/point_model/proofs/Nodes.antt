@@ -12,15 +12,15 @@ use Rattle.block_format.specs.declared.inode.Inode.TheVariants.{Unused, File, Di
 use Rattle.block_format.specs.declared.slot.Slot.{Slot}
 use Rattle.block_tree.specs.Tree.{blocks_in, block_below, index_at, nonzero}
 use Rattle.dir_slots.specs.Pages.{IsPage, pages_for}
-use Rattle.dir_slots.specs.Slots.{number_in as numbers_in}
+use Rattle.dir_slots.specs.Slots.{number_in}
 use Rattle.dirty_store.specs.Overlay.{Overlay}
 use Rattle.image_model.specs.Holds.{HoldsTree}
 use Rattle.image_model.specs.Live.{IsLive}
 use Rattle.image_model.specs.Met.{Met, index, NoFaults}
 use Rattle.image_model.specs.Nodes.{has_tail, is_bad_directory}
 use Rattle.image_model.specs.Planned.{node_trees, height_in}
-use Rattle.image_model.specs.Seen.{Held, Seen, seen, all_held, page_held}
-use Rattle.image_model.specs.Slots.{inode_of, number_in, slots_of, slot_pieces}
+use Rattle.image_model.specs.Seen.{SeenBlock, Seen, seen, all_held, page_held}
+use Rattle.image_model.specs.Slots.{inode_of, slots_of, slot_pieces}
 use Rattle.image_model.specs.Standing.{DirectoryStands}
 use Rattle.image_model.specs.Stands.{node_of}
 use Rattle.image_model.specs.Walk.{is_used, nodes_at}
@@ -205,7 +205,7 @@ module _ (r : Rules) (old new : List Block) (o : Overlay) (m : Machine) (report 
   tails_new node there = tail_of node.0 node.1 (sym (seen_is node.0) ∙ listed new node there)
 
   directory_seen : (n : ℕ) → (stood : Stood n)
-      → (is_bad_directory (seen new) (n, Directory (length (slots_now old o n)) stood.height stood.ptr) ≡ false) × ((name : List ℕ) → number_in (slots_of (seen new) n) name ≡ numbers_in (slots_now old o n) name)
+      → (is_bad_directory (seen new) (n, Directory (length (slots_now old o n)) stood.height stood.ptr) ≡ false) × ((name : List ℕ) → number_in (slots_of (seen new) n) name ≡ number_in (slots_now old o n) name)
   directory_seen n stood = directory_is_seen new n (slots_now old o n) stood.height stood.ptr none (seen_is n ∙ stood.is) stood.stands
 
   bad_of : (n : ℕ) (x : Inode) → plan.inode n ≡ x → is_bad_directory (seen new) (n, x) ≡ false
@@ -231,16 +231,16 @@ module _ (r : Rules) (old new : List Block) (o : Overlay) (m : Machine) (report 
       ∙ (file_seen at.number _ _ bytes is (record { path = path; stands = stands ∙ (λ i. Some (record { number = at.number; content = content i })) })).0
       ∙ (λ i. Some (record { number = at.number; content = sym content i }))
 
-  slot_new : (path : Path) (at : Node) (name : List ℕ) (c : Content) → at.content ≡ c → node_at m.tree path ≡ Some at → number_in (slots_of (seen new) at.number) name ≡ numbers_in (slots_held (node_now old o at.number)) name
+  slot_new : (path : Path) (at : Node) (name : List ℕ) (c : Content) → at.content ≡ c → node_at m.tree path ≡ Some at → number_in (slots_of (seen new) at.number) name ≡ number_in (slots_held (node_now old o at.number)) name
   slot_new path at name (content_of.Directory width) content stands =
       let tells = node_of_path (node_now old o) m.tree may.coherent.tree may.holds.nodes plan.inode plan.inodes.kinds path at stands in
       let stood = directory_stands at.number width _ _ (told_directory (plan.inode at.number) width (tells ∙ ap (λ (c : Content). Some (info_of c)) content)) in
-      (directory_seen at.number stood).1 name ∙ sym (ap (λ h. numbers_in (slots_held h) name) stood.node)
+      (directory_seen at.number stood).1 name ∙ sym (ap (λ h. number_in (slots_held h) name) stood.node)
   slot_new path at name (content_of.File bytes) content stands =
       let tells = node_of_path (node_now old o) m.tree may.coherent.tree may.holds.nodes plan.inode plan.inodes.kinds path at stands ∙ ap (λ (c : Content). Some (info_of c)) content in
       let is = told_file (plan.inode at.number) (length bytes) tells in
       let no_node = told_no_slots (inode_now old o at.number) (slots_now old o at.number) (length bytes) (sym (plan.inodes.kinds at.number) ∙ tells) in
-      ap (λ (ss : List Slot). number_in ss name) (no_slots new none at.number (ap (directory_pairs (blocks_in new)) (seen_is at.number ∙ is))) ∙ sym (ap (λ (ss : List Slot). numbers_in ss name) no_node)
+      ap (λ (ss : List Slot). number_in ss name) (no_slots new none at.number (ap (directory_pairs (blocks_in new)) (seen_is at.number ∙ is))) ∙ sym (ap (λ (ss : List Slot). number_in ss name) no_node)
 
   pub holds_new : HoldsTree (seen new) m.tree
   holds_new = record {

@@ -13,7 +13,7 @@ use Rattle.block_format.specs.declared.inode.Inode.TheVariants.{Unused, File, Di
 use Rattle.block_tree.specs.Tree.{blocks_in, block_below}
 use Rattle.image_model.specs.Met.{NoFaults}
 use Rattle.image_model.specs.Nodes.{has_tail}
-use Rattle.image_model.specs.Seen.{Held, seen}
+use Rattle.image_model.specs.Seen.{SeenBlock, seen}
 use Rattle.image_model.specs.Slots.{held_at, inode_of}
 use Rattle.image_model.specs.Standing.{some_block, file_block}
 use Rattle.image_model.specs.Stands.{Stands, bytes_from, node_of, spot_of, layout_in}
@@ -78,7 +78,7 @@ zeros_are (x ∷ xs) all = by (x == 0) refl all (zeros_are xs)
 
 -- ---- pieces of a file
 
-module _ (hs : List Held) (n : ℕ) where
+module _ (hs : List SeenBlock) (n : ℕ) where
   piece : ℕ → List ℕ
   piece p = take 4096 (held_at hs n p ++ replicate 4096 0)
 
@@ -147,7 +147,7 @@ module _ (old : List Block) (s : Stored) (stands : Stands old s) (mountable : Is
   none : NoFaults (seen old).met
   none = none_found (layout_in old) (seen old).met (seen old).met stands.sound.pointers
 
-  abbrev hs : List Held
+  abbrev hs : List SeenBlock
   hs = (seen old).contents
 
   -- what is held at a place is its block

@@ -18,7 +18,7 @@ use Rattle.block_tree.proofs.Pairs.{pairs_are}
 use Rattle.dirty_store.specs.Overlay.{Overlay, node_of, least_cut}
 use Rattle.image_model.specs.Met.{Met, index, page, content, past, empty, not_inode, stray, files, NoFaults}
 use Rattle.image_model.specs.Nodes.{AllBelow}
-use Rattle.image_model.specs.Seen.{Held, seen, all_held, content_held}
+use Rattle.image_model.specs.Seen.{SeenBlock, seen, all_held, content_held}
 use Rattle.image_model.specs.Slots.{inode_of}
 use Rattle.image_model.specs.Standing.{some_block}
 use Rattle.image_model.specs.Stands.{spot_of, layout_in}
