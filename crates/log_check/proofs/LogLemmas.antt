@@ -23,6 +23,10 @@ if_some : {X : Type 0} (P : X → Type 0) (o : Option X) (x : X) → o ≡ Some 
 if_some P (Some y) x e holds = let same : y ≡ x = cc in subst P same holds
 if_some P None x e holds = cc
 
+if_none : {X : Type 0} (P : Type 0) (o : Option X) → o ≡ None → IfNone o P → P
+if_none P None e holds = holds
+if_none P (Some x) e holds = cc
+
 length_front : {X : Type 0} (n : ℕ) (xs : List X) → n ≤ length xs → length (take n xs) ≡ n
 length_front zero xs le = refl
 length_front (suc n) [] le = absurd (omega arith)
@@ -71,15 +75,11 @@ module _ (tells : Bool) (image : List Block) (body : RootBody) (front : Front) (
   -- all records are read and accepted, and they fill the used blocks
   pub all_logs : (new : Nodes) → TakesEach free old commands new → IsWhole body front → Logs image (with_records s commands)
   all_logs new takes whole = record {
-    count = if_none front.bad whole.none_bad reads.whole ∙ sym records_is;
+    count = if_none (length commands ≡ body.records) front.bad whole.none_bad reads.whole ∙ sym records_is;
     logged = holds;
     filled = omega (arith, reads.within, whole.full, used_is);
     accepted = subst (λ (n : ℕ). Accepts n s.tree 0 commands) shown.free_is (takes s shown.is_tree shown.holds).accepted;
   }
-    where
-      if_none : (o : Option ℕ) → o ≡ None → IfNone o (length commands ≡ body.records) → length commands ≡ body.records
-      if_none None e is = is
-      if_none (Some i) e is = cc
 
   -- one of them is refused
   pub refused_bad : (i : ℕ) → IsRefusedAt free old commands i → IsBadLog image i
@@ -122,14 +122,10 @@ module _ (tells : Bool) (image : List Block) (body : RootBody) (front : Front) (
   short_bad : (i : ℕ) → front.bad ≡ None → i ≡ body.records → blocks_of commands < body.log_used → Accepts free s.tree 0 commands → IsBadLog image i
   short_bad i none is short all = record {
     before = with_records s commands;
-    count = if_none front.bad none reads.whole ∙ sym is;
+    count = if_none (length commands ≡ body.records) front.bad none reads.whole ∙ sym is;
     good = accepted_with commands holds all;
     bad = inr (is ∙ sym records_is, omega (arith, short, used_is));
   }
-    where
-      if_none : (o : Option ℕ) → o ≡ None → IfNone o (length commands ≡ body.records) → length commands ≡ body.records
-      if_none None e given = given
-      if_none (Some k) e given = cc
 
   -- they are accepted, and something is wrong with what is behind them
   pub part_bad : (new : Nodes) (i : ℕ) → TakesEach free old commands new → IsPart body front i → IsBadLog image i
