@@ -11,3 +11,4 @@ mod OldPages
 mod KeptPages
 mod DirectoriesStand
 mod Assembled
+mod Staged

@@ -1,5 +1,6 @@
 //! Laws of planned points.
 ghost use Rattle.point_model.specs.Laws.{BlocksHoldBytes, PagesAreSpelled, PlannedHasPoint};
+ghost use Rattle.point_model.specs.Staging.{StagingHolds};
 
 /// An image in which a point is planned has all that a point owes.
 pub fn planned_has_point()
@@ -14,4 +15,9 @@ pub fn blocks_hold_bytes()
 /// In an image that stands for something, the pages of each directory are there, and spell its slots.
 pub fn pages_are_spelled()
     ensures { PagesAreSpelled }
+{}
+
+/// Staging the effect of an accepted command keeps what an image and an overlay hold.
+pub fn staging_holds()
+    ensures { StagingHolds }
 {}
