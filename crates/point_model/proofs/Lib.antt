@@ -12,3 +12,4 @@ mod KeptPages
 mod DirectoriesStand
 mod Assembled
 mod Staged
+mod Resting

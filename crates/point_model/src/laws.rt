@@ -1,6 +1,6 @@
 //! Laws of planned points.
 ghost use Rattle.point_model.specs.Laws.{BlocksHoldBytes, PagesAreSpelled, PlannedHasPoint};
-ghost use Rattle.point_model.specs.Staging.{StagingHolds};
+ghost use Rattle.point_model.specs.Staging.{AtRest, StagingHolds};
 
 /// An image in which a point is planned has all that a point owes.
 pub fn planned_has_point()
@@ -20,4 +20,9 @@ pub fn pages_are_spelled()
 /// Staging the effect of an accepted command keeps what an image and an overlay hold.
 pub fn staging_holds()
     ensures { StagingHolds }
+{}
+
+/// Just after a point an image and a clean overlay hold what the machine does, where they hold its nodes.
+pub fn at_rest()
+    ensures { AtRest }
 {}

@@ -3,4 +3,4 @@
 
 mod laws;
 
-pub use laws::{blocks_hold_bytes, pages_are_spelled, planned_has_point, staging_holds};
+pub use laws::{at_rest, blocks_hold_bytes, pages_are_spelled, planned_has_point, staging_holds};
