@@ -1,10 +1,15 @@
 //! Laws of planned points.
-ghost use Rattle.point_model.specs.Laws.{BlocksHoldBytes, PagesAreSpelled, PlannedHasPoint};
+ghost use Rattle.point_model.specs.Laws.{BlocksHoldBytes, PagesAreSpelled, PlannedHasPoint, PlannedStands};
 ghost use Rattle.point_model.specs.Staging.{AtRest, StagingHolds};
 
 /// An image in which a point is planned has all that a point owes.
 pub fn planned_has_point()
     ensures { PlannedHasPoint }
+{}
+
+/// An image in which a point is planned stands for the state after the point.
+pub fn planned_stands()
+    ensures { PlannedStands }
 {}
 
 /// In an image that stands for something, each block of a file holds the bytes of its places.
