@@ -2,7 +2,8 @@
 use Rattle.std.proofs.Common.{◌≡◌, ℕ, ◌≤◌, Bool, true, false, List, Some, refl, sym, ap, subst, ◌∙◌}
 use Rattle.vol_numbers.specs.Layout.{Layout}
 use Rattle.image_model.specs.Plan.{taken_in}
-use Rattle.point_model.specs.Laws.{PlannedHasPoint}
+use Rattle.image_model.proofs.PointLaws.{point_stands}
+use Rattle.point_model.specs.Laws.{PlannedHasPoint, PlannedStands}
 use Rattle.point_model.proofs.Counted.{counts_new}
 use Rattle.point_model.proofs.FilePlaces.{places_new, files_new}
 use Rattle.point_model.proofs.DirectoriesStand.{directories_stand}
@@ -43,3 +44,6 @@ has_point r old new o m report may plan =
       places = sym (places_new r old new o m report may plan);
       reserve = subst (λ (g : Layout). 16 ≤ free_blocks g m.tree (placed_after r m (fresh_in report))) layout (point_fits r m (fresh_in report) may.is_report.positive may.is_report.whole may.is_report.point.may may.long);
     }
+
+pub planned_stands : PlannedStands
+planned_stands r old new o m report may plan = point_stands old new (stored m) _ may.stands (has_point r old new o m report may plan)

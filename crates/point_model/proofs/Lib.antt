@@ -11,3 +11,5 @@ mod OldPages
 mod KeptPages
 mod DirectoriesStand
 mod Assembled
+mod Staged
+mod Resting

@@ -36,6 +36,11 @@ abbrev pub PlannedHasPoint : Type 0
 PlannedHasPoint = (r : Rules) (old new : List Block) (o : Overlay) (m : Machine) (report : Report) → MayTake r old o m report → IsPlannedFor r old new o m report
     → HasPoint old new (stored (after_point r m (fresh_in report)))
 
+-- So it stands for the state after the point.
+abbrev pub PlannedStands : Type 0
+PlannedStands = (r : Rules) (old new : List Block) (o : Overlay) (m : Machine) (report : Report) → MayTake r old o m report → IsPlannedFor r old new o m report
+    → Stands new (stored (after_point r m (fresh_in report)))
+
 -- ---- what an image of the last point has
 
 -- Each block of a file holds the bytes of its places.

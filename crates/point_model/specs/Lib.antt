@@ -1,4 +1,5 @@
 pub mod Holding
+pub mod Staging
 pub mod OldPages
 pub mod NodePlan
 pub mod PointPlan

@@ -1,9 +1,15 @@
 //! Laws of planned points.
-ghost use Rattle.point_model.specs.Laws.{BlocksHoldBytes, PagesAreSpelled, PlannedHasPoint};
+ghost use Rattle.point_model.specs.Laws.{BlocksHoldBytes, PagesAreSpelled, PlannedHasPoint, PlannedStands};
+ghost use Rattle.point_model.specs.Staging.{AtRest, StagingHolds};
 
 /// An image in which a point is planned has all that a point owes.
 pub fn planned_has_point()
     ensures { PlannedHasPoint }
+{}
+
+/// An image in which a point is planned stands for the state after the point.
+pub fn planned_stands()
+    ensures { PlannedStands }
 {}
 
 /// In an image that stands for something, each block of a file holds the bytes of its places.
@@ -14,4 +20,14 @@ pub fn blocks_hold_bytes()
 /// In an image that stands for something, the pages of each directory are there, and spell its slots.
 pub fn pages_are_spelled()
     ensures { PagesAreSpelled }
+{}
+
+/// Staging the effect of an accepted command keeps what an image and an overlay hold.
+pub fn staging_holds()
+    ensures { StagingHolds }
+{}
+
+/// Just after a point an image and a clean overlay hold what the machine does, where they hold its nodes.
+pub fn at_rest()
+    ensures { AtRest }
 {}

@@ -3,4 +3,6 @@
 
 mod laws;
 
-pub use laws::{blocks_hold_bytes, pages_are_spelled, planned_has_point};
+pub use laws::{
+    at_rest, blocks_hold_bytes, pages_are_spelled, planned_has_point, planned_stands, staging_holds,
+};
