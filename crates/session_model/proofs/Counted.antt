@@ -18,7 +18,7 @@ pub one_counted : (e : Exchange) → faults_in [] (Untold e) ≡ faults_in (e �
 one_counted e = omega arith
 
 pub faults_then : (a b : List Exchange) (last : Last) → faults_in (a ++ b) last ≡ faults_in a Nothing + faults_in b last
-faults_then [] b last = refl
+faults_then [] b last = omega arith
 faults_then (e ∷ a) b last = omega (arith, faults_then a b last)
 
 some_fault : (es : List Exchange) (command : Command) (report : Option Report) → 1 ≤ faults_in es (Stop command report)

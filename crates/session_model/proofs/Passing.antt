@@ -8,11 +8,11 @@ use Rattle.vol_numbers.specs.declared.block.Block.{Block}
 use Rattle.tree_model.specs.declared.command.Command.{Command}
 use Rattle.tree_model.specs.declared.report.Report.{Report}
 use Rattle.tree_model.specs.Tree.{Tree}
-use Rattle.tree_model.specs.Step.{step, tree_after}
+use Rattle.tree_model.specs.Step.{step}
 use Rattle.volume_model.specs.Legal.{when_answered}
 use Rattle.volume_model.specs.Done.{done, all_done}
 use Rattle.volume_model.specs.Machine.{Machine, Rules}
-use Rattle.session_model.specs.Course.{Course, Exchange, Last, acknowledged, accepted_by, accepted_last, report_last, after, before_last, next_by, state_after}
+use Rattle.session_model.specs.Course.{Course, Exchange, Last, acknowledged, accepted_by, accepted_last, report_last, after, before_last, next_by, state_after, tree_after}
 use Rattle.session_model.specs.Given.{report_in}
 use Rattle.session_model.specs.Stages.{IsOneOf, StandsForOne, StandsForPrefix, last_stages, stages, stages_by, passed, passed_from}
 

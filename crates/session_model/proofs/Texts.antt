@@ -8,7 +8,7 @@ use Rattle.tree_model.specs.declared.reply.Reply.TheVariants.{Done, Data, Entrie
 use Rattle.tree_model.specs.declared.report.Report.{Report}
 use Rattle.tree_model.specs.declared.report.Answer.{Answer}
 use Rattle.reply_text.specs.Replies.{refusal_text, reply_text, report_text}
-use Rattle.reply_text.proofs.AnswerLemmas.{none_begins}
+use Rattle.reply_text.specs.Telling.{NoneBeginsAnother}
 use Rattle.volume_model.specs.Short.{AnswerForNow, answered, point_short}
 use Rattle.session_model.specs.Given.{short_text}
 use Rattle.session_model.specs.CourseLaws.{GivenAreTold}
@@ -47,9 +47,9 @@ is_no_answer : (report : Option Report) (given : Reply) (x y : List ℕ) → (re
 is_no_answer None given x y same = is_no_reply given x y same
 is_no_answer (Some report) given x y same = let e : ◌≡◌ {A = ℕ} 112 114 = other 0 _ _ same in omega arith
 
-pub given_told : GivenAreTold
-given_told (answered one) (answered two) more first second same = ap (λ (a : Answer). answered a) (none_begins one two more first second same)
-given_told (answered one) point_short more first second same = absurd (is_no_answer one.report one.reply more [] (same ∙ sym (append-nil short_text)))
-given_told point_short (answered two) more first second same =
+pub given_told : NoneBeginsAnother → GivenAreTold
+given_told law (answered one) (answered two) more first second same = ap (λ (a : Answer). answered a) (law one two more first second same)
+given_told law (answered one) point_short more first second same = absurd (is_no_answer one.report one.reply more [] (same ∙ sym (append-nil short_text)))
+given_told law point_short (answered two) more first second same =
     absurd (is_no_answer two.report two.reply [] more (append-nil (report_text two.report ++ reply_text two.reply) ∙ sym same))
-given_told point_short point_short more first second same = refl
+given_told law point_short point_short more first second same = refl

@@ -3,7 +3,8 @@ use Rattle.std.specs.Prelude.{◌++◌, ◌&&◌, not, if◌then◌else◌, List
 use Rattle.std.specs.List.{flat_map}
 use Rattle.tree_model.specs.declared.command.Command.{Command}
 use Rattle.tree_model.specs.declared.report.Report.{Report}
-use Rattle.tree_model.specs.Step.{is_change}
+use Rattle.tree_model.specs.Step.{step, is_change}
+use Rattle.tree_model.specs.Tree.{Tree}
 use Rattle.volume_model.specs.Done.{all_done}
 use Rattle.volume_model.specs.Legal.{changes, is_full, when_answered}
 use Rattle.volume_model.specs.Machine.{Machine, Rules}
@@ -29,6 +30,11 @@ pub record Course : Type 0 where
   pub start : Machine
   pub told : List Exchange
   pub last : Last
+
+-- the tree after these commands, each of which the tree does
+abbrev pub tree_after : Tree → List Command → Tree
+tree_after tree [] = tree
+tree_after tree (command ∷ commands) = tree_after (step tree command).1 commands
 
 -- ---- the changes that are accepted
 

@@ -9,7 +9,7 @@ use Rattle.tree_model.specs.declared.command.Command.TheVariants.{Read, List as 
 use Rattle.tree_model.specs.declared.report.Answer.{Answer}
 use Rattle.tree_model.specs.declared.reply.Reply.{Reply}
 use Rattle.tree_model.specs.Tree.{Tree, new_tree}
-use Rattle.tree_model.specs.Step.{tree_after, step}
+use Rattle.tree_model.specs.Step.{step}
 use Rattle.volume_model.specs.Legal.{is_excuse}
 use Rattle.volume_model.specs.Machine.{Machine, Rules, stored}
 use Rattle.volume_model.specs.Short.{answered}
@@ -19,7 +19,7 @@ use Rattle.image_model.specs.Fresh.{IsFresh}
 use Rattle.image_model.specs.Stands.{Stands}
 use Rattle.image_model.specs.declared.finding.Finding.{Finding}
 use Rattle.command_text.specs.declared.item.Item.TheVariants as item
-use Rattle.session_model.specs.Course.{Course, Exchange, Last, accepted, accepted_by, acknowledged}
+use Rattle.session_model.specs.Course.{Course, Exchange, Last, accepted, accepted_by, acknowledged, tree_after}
 use Rattle.session_model.specs.Stages.{StandsForPrefix, passed}
 use Rattle.session_model.specs.Answered.{EachLegal}
 use Rattle.session_model.specs.Follows.{Leaves}

@@ -3,12 +3,11 @@ use Rattle.std.specs.Prelude.{◌≡◌, ◌⊎◌, ◌≤◌, ◌++◌, ℕ, Li
 use Rattle.vol_numbers.specs.declared.block.Block.{Block}
 use Rattle.tree_model.specs.declared.command.Command.{Command}
 use Rattle.tree_model.specs.declared.report.Report.{Report}
-use Rattle.tree_model.specs.Step.{tree_after}
 use Rattle.volume_model.specs.Legal.{when_answered}
 use Rattle.volume_model.specs.Machine.{Machine, Rules, stored}
 use Rattle.image_model.specs.Stands.{Stands}
 use Rattle.session_model.specs.Given.{report_in}
-use Rattle.session_model.specs.Course.{Course, Exchange, Last, accepted, accepted_by, accepted_last, report_last, after, next_by}
+use Rattle.session_model.specs.Course.{Course, Exchange, Last, accepted, accepted_by, accepted_last, report_last, after, next_by, tree_after}
 
 -- the state before, the state after the point, and that with the changes done
 abbrev pub stages : Rules → Machine → Option Report → List Command → List Machine

@@ -3,6 +3,7 @@ ghost use Rattle.session_model.specs.CourseLaws.{NextIs, AcknowledgedFirst, Exit
 ghost use Rattle.session_model.specs.Follows.{seen_of};
 
 use disk_model::Disk;
+use reply_text::none_begins_another;
 
 /// The state after an exchange is the model's next one.
 pub fn next_is()
@@ -42,4 +43,6 @@ pub fn faults_are_exact<D: Disk>(old: &D, new: &D)
 /// The text of no answer begins another's.
 pub fn given_are_told()
     ensures { GivenAreTold }
-{}
+{
+    none_begins_another();
+}
