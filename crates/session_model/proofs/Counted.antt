@@ -1,11 +1,11 @@
 -- How the faults of a course are counted.
-use Rattle.std.proofs.Common.{◌≡◌, ◌∙◌, ◌≤◌, ◌<◌, ◌+◌, ◌-◌, ◌^◌, ℕ, Bool, List, [], ◌∷◌, ◌++◌, refl, sym, ap, subst, arith}
+use Rattle.std.proofs.Common.{◌≡◌, ◌≤◌, ◌+◌, ℕ, Bool, List, [], ◌∷◌, ◌++◌, sym, subst, arith}
 use Rattle.std.specs.Prelude.{Option}
 use Rattle.tree_model.specs.declared.command.Command.{Command}
 use Rattle.tree_model.specs.declared.report.Report.{Report}
 use Rattle.session_model.specs.Course.{Exchange, Last}
 use Rattle.session_model.specs.Course.Last.{Nothing, Untold, Stop}
-use Rattle.session_model.specs.Follows.{Seen, faults_by, faults_in, raised_by}
+use Rattle.session_model.specs.Follows.{Seen, faults_in, raised_by}
 use Rattle.session_model.specs.CourseLaws.{StopIsCounted, FaultsAreExact}
 
 pub none_raised : (count : ℕ) → count ≡ raised_by 0 count

@@ -1,5 +1,5 @@
 -- How courses are made: of nothing, of one item, and of two courses.
-use Rattle.std.proofs.Common.{◌≡◌, ◌≢◌, ◌∙◌, inl, inr, ℕ, Bool, true, false, List, [], ◌∷◌, ◌++◌, length, refl, sym, ap, subst, IsTrue}
+use Rattle.std.proofs.Common.{◌≡◌, ◌≢◌, ◌∙◌, inl, inr, ℕ, Bool, true, false, List, [], ◌∷◌, ◌++◌, refl, sym, ap, subst, IsTrue}
 use Rattle.std.specs.Prelude.{◌&&◌, None}
 use Rattle.vol_numbers.specs.declared.block.Block.{Block}
 use Rattle.disk_model.specs.Disk.{State}
@@ -11,11 +11,11 @@ use Rattle.volume_model.specs.Short.{AnswerForNow}
 use Rattle.command_text.specs.declared.item.Item.{Item}
 use Rattle.command_text.specs.declared.item.Item.TheVariants as item
 use Rattle.session_model.specs.Given.{report_in}
-use Rattle.session_model.specs.Course.{Course, Exchange, Last, accepted_by, before_last, end_of, next_by, state_after}
+use Rattle.session_model.specs.Course.{Course, Exchange, Last, end_of, next_by, state_after}
 use Rattle.session_model.specs.Course.Last.{Nothing, Untold, Stop}
 use Rattle.session_model.specs.Stages.{IsOneOf, StandsForOne, last_stages, stages, stages_by, passed, passed_from}
 use Rattle.session_model.specs.Answered.{IsPaired, EachPaired, EachLegal}
-use Rattle.session_model.specs.Follows.{Seen, Follows, Leaves, IsAtRest, is_idle, all_idle, IsKept, faults_by, faults_in, raised_by}
+use Rattle.session_model.specs.Follows.{Seen, Follows, Leaves, IsAtRest, is_idle, all_idle, IsKept, faults_in, raised_by}
 use Rattle.session_model.specs.Making.{no_course, one_told, one_last, joined, with_told, IsLeft, Applies}
 use Rattle.session_model.proofs.Counted.{none_raised, raised_then, one_counted, faults_then}
 use Rattle.session_model.proofs.Passing.{one_left, one_right, of_three, prefix_of, last_prefix}

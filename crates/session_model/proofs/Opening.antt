@@ -1,10 +1,10 @@
 -- The state of a volume that was mounted is reached.
-use Rattle.std.proofs.Common.{◌≡◌, ◌∙◌, Bool, List, [], ◌∷◌, refl, sym, ap, subst, IsTrue}
+use Rattle.std.proofs.Common.{◌≡◌, ◌∙◌, Bool, List, [], ◌∷◌, refl, sym, ap, subst}
 use Rattle.vol_numbers.specs.declared.block.Block.{Block}
 use Rattle.tree_model.specs.declared.command.Command.{Command}
 use Rattle.volume_model.specs.Cache.{CacheList}
 use Rattle.volume_model.specs.Done.{done, all_done, mounted}
-use Rattle.volume_model.specs.Machine.{Machine, Rules, Stored, stored, at_point}
+use Rattle.volume_model.specs.Machine.{Machine, stored, at_point}
 use Rattle.image_states.proofs.Mountable.{mounting_is_reached}
 use Rattle.state_laws.specs.States.{IsReached}
 use Rattle.session_model.specs.Follows.{Seen}

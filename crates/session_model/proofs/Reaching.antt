@@ -1,5 +1,5 @@
 -- What the words of a course mean: the next state, what is acknowledged, and that each state is reached.
-use Rattle.std.proofs.Common.{◌≡◌, ◌≢◌, ◌∙◌, ◌≤◌, ℕ, Bool, true, false, List, [], ◌∷◌, length, refl, sym, ap, subst, arith}
+use Rattle.std.proofs.Common.{◌≡◌, ◌≢◌, ◌≤◌, Bool, true, false, List, [], ◌∷◌, length, refl, sym, subst, arith}
 use Rattle.std.specs.Prelude.{◌&&◌, if◌then◌else◌, Option}
 use Rattle.tree_model.specs.declared.command.Command.{Command}
 use Rattle.tree_model.specs.declared.report.Report.{Report}
@@ -12,10 +12,10 @@ use Rattle.state_laws.specs.States.{IsReached, answer_for_now}
 use Rattle.command_text.specs.declared.item.Item.{Item}
 use Rattle.command_text.specs.declared.item.Item.TheVariants as item
 use Rattle.session_model.specs.Given.{report_in, says_done}
-use Rattle.session_model.specs.Course.{Course, Exchange, Last, accepted_by, accepted_last, before_last, end_of, next_by, report_last, after, state_after}
+use Rattle.session_model.specs.Course.{Exchange, Last, accepted_by, accepted_last, before_last, next_by, report_last, after, state_after}
 use Rattle.session_model.specs.Course.Last.{Nothing, Untold, Stop}
 use Rattle.session_model.specs.Answered.{IsPaired, EachPaired, IsLegalAt, EachLegal, IsLegalLast}
-use Rattle.session_model.specs.Follows.{Seen, Follows}
+use Rattle.session_model.specs.Follows.{Seen}
 use Rattle.session_model.specs.CourseLaws.{AcknowledgedFirst, NextIs, StatesAreReached}
 
 at_most_one : (b : Bool) (command : Command) → length (if b then command ∷ [] else []) ≤ 1

@@ -19,7 +19,7 @@ use Rattle.image_model.proofs.Kept.{image_keeps}
 use Rattle.session_model.specs.Given.{report_in}
 use Rattle.session_model.specs.Course.{Course, Exchange, Last, acknowledged, accepted, accepted_by, accepted_last, report_last, after, before_last, next_by, state_after}
 use Rattle.session_model.specs.Course.Last.{Nothing, Untold, Stop}
-use Rattle.session_model.specs.Stages.{IsOneOf, StandsForOne, StandsForPrefix, last_stages, stages, stages_by, passed, passed_from}
+use Rattle.session_model.specs.Stages.{IsOneOf, StandsForOne, StandsForPrefix, last_stages, stages, passed, passed_from}
 use Rattle.session_model.specs.Follows.{Leaves}
 use Rattle.session_model.specs.CourseLaws.{ExitStands}
 use Rattle.session_model.specs.Runs.{KeepsAcknowledged, MustKeep, TwoRuns, AnyMoment}

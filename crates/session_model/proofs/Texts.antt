@@ -9,7 +9,7 @@ use Rattle.tree_model.specs.declared.report.Report.{Report}
 use Rattle.tree_model.specs.declared.report.Answer.{Answer}
 use Rattle.reply_text.specs.Replies.{refusal_text, reply_text, report_text}
 use Rattle.reply_text.specs.Telling.{NoneBeginsAnother}
-use Rattle.volume_model.specs.Short.{AnswerForNow, answered, point_short}
+use Rattle.volume_model.specs.Short.{answered, point_short}
 use Rattle.session_model.specs.Given.{short_text}
 use Rattle.session_model.specs.CourseLaws.{GivenAreTold}
 

@@ -3,7 +3,6 @@ use Rattle.std.specs.Prelude.{◌≡◌, ◌≢◌, ◌≤◌, ◌<◌, ◌+◌,
 use Rattle.disk_model.specs.Disk.{State, EachImage}
 use Rattle.tree_model.specs.declared.command.Command.{Command}
 use Rattle.tree_model.specs.declared.command.Command.TheVariants.{Checkpoint}
-use Rattle.tree_model.specs.declared.report.Answer.{Answer}
 use Rattle.tree_model.specs.declared.report.Report.{Report}
 use Rattle.tree_model.specs.Step.{is_change}
 use Rattle.reply_text.specs.Telling.{IsAnswer}

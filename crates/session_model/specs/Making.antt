@@ -1,5 +1,5 @@
 -- How courses are made: of nothing, of one item, and of two courses.
-use Rattle.std.specs.Prelude.{◌≡◌, ◌≢◌, ◌++◌, Bool, true, List, [], ◌∷◌, IsTrue}
+use Rattle.std.specs.Prelude.{◌≡◌, ◌≢◌, ◌++◌, Bool, true, [], ◌∷◌, IsTrue}
 use Rattle.disk_model.specs.Disk.{State, EachImage}
 use Rattle.disk_model.specs.Past.{Adds}
 use Rattle.tree_model.specs.declared.command.Command.{Command}

@@ -1,5 +1,5 @@
 -- How sessions are made of one item, and of two sessions.
-use Rattle.std.specs.Prelude.{◌≡◌, ℕ, Bool, List, [], ◌∷◌, Option, Some, None, IsTrue}
+use Rattle.std.specs.Prelude.{◌≡◌, ℕ, Bool, [], Option, None, IsTrue}
 use Rattle.disk_model.specs.Disk.{State, EachImage}
 use Rattle.disk_model.specs.Past.{Past, Adds}
 use Rattle.wire_ends.specs.Ends.{Input, Output, Puts}
