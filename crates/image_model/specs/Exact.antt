@@ -48,6 +48,7 @@ StandingHasNone = (image : List Block) (s : Stored) → Stands image s → (find
 abbrev pub OneFinding : Type 0
 OneFinding = (image : List Block) (f g : Finding) → Finds image f → Finds image g → f ≡ g
 
--- There is no image that has no finding and stands for nothing.
+-- There is no image that has no finding and stands for nothing. That doesn't say what an image without a finding stands for: whoever looks for
+-- a finding has to find that too.
 abbrev pub StandsOrFinds : Type 0
 StandsOrFinds = (image : List Block) → ((finding : Finding) → ¬ Finds image finding) → ((s : Stored) → ¬ Stands image s) → ⊥

@@ -31,7 +31,7 @@ pub fn one_finding()
     ensures { OneFinding }
 {}
 
-/// There is no image that has no finding and stands for nothing.
+/// There is no image that has no finding and stands for nothing. It doesn't say what one without a finding stands for.
 pub fn stands_or_finds()
     ensures { StandsOrFinds }
 {}
