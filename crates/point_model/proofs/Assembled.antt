@@ -22,12 +22,21 @@ has_point r old new o m report may plan =
     let pages = old_pages r old new o m report may plan (directories_stand old may.stands.sound) in
     let layout = may.stands.layout ∙ sym plan.root.layout in
     record {
-      root = plan.root.there;
-      fits = plan.root.fits;
+      laid = record {
+        root = plan.root.there;
+        fits = plan.root.fits;
+        layout = layout;
+        point = sym plan.root.point;
+        log_empty = (refl, plan.root.records, plan.root.log_used);
+        counts = counts_new r old new o m report may plan;
+        tails = tails_new r old new o m report may plan bytes pages;
+        directories = directories_new r old new o m report may plan bytes pages;
+        is_tree = may.coherent.tree;
+        holds = holds_new r old new o m report may plan bytes pages;
+        places = sym (places_new r old new o m report may plan);
+        reserve = subst (λ (g : Layout). 16 ≤ free_blocks g m.tree (placed_after r m (fresh_in report))) layout (point_fits r m (fresh_in report) may.is_report.positive may.is_report.whole may.is_report.point.may may.long);
+      };
       layout = plan.root.layout;
-      stored_layout = layout;
-      point = sym plan.root.point;
-      log_empty = (refl, plan.root.records, plan.root.log_used);
       for_metadata = taken_in plan.inodes_added plan.taken;
       for_files = fresh_in report;
       fresh = plan.free;
@@ -36,13 +45,6 @@ has_point r old new o m report may plan =
         metas = leads r old new o m report may plan;
         files = files_new r old new o m report may plan;
       };
-      counts = counts_new r old new o m report may plan;
-      tails = tails_new r old new o m report may plan bytes pages;
-      directories = directories_new r old new o m report may plan bytes pages;
-      is_tree = may.coherent.tree;
-      holds = holds_new r old new o m report may plan bytes pages;
-      places = sym (places_new r old new o m report may plan);
-      reserve = subst (λ (g : Layout). 16 ≤ free_blocks g m.tree (placed_after r m (fresh_in report))) layout (point_fits r m (fresh_in report) may.is_report.positive may.is_report.whole may.is_report.point.may may.long);
     }
 
 pub planned_stands : PlannedStands
