@@ -1,0 +1,10 @@
+pub mod Counted
+pub mod Joining
+pub mod Never
+pub mod Opening
+pub mod Passing
+pub mod Reaching
+pub mod Second
+pub mod Sessions
+pub mod Stored
+pub mod Texts

@@ -1,0 +1,10 @@
+pub mod Answered
+pub mod Course
+pub mod CourseLaws
+pub mod Follows
+pub mod Given
+pub mod Making
+pub mod Runs
+pub mod Session
+pub mod SessionMaking
+pub mod Stages
