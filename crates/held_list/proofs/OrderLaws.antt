@@ -48,19 +48,3 @@ absent_at held n place gap = other_numbers held n (λ k lt. by k lt (nat_lt k pl
     by : (k : ℕ) → k < length held → (t : Bool) → nat_lt k place ≡ t → nat_eq (number_at held k) n ≡ false
     by k lt true is = apart (number_at held k) n (gap.before k (grind (arith, nat_tests)))
     by k lt false is = let less = gap.behind k (grind (arith, nat_tests)) lt in grind (arith, nat_tests)
-
--- what holds of the number at a place holds of those before it
-pub up_to : (held : List Held) (n middle : ℕ) → IsInOrder held → middle < length held → number_at held middle < n → (k : ℕ) → k < middle + 1 → number_at held k < n
-up_to held n middle order within less k lt = by (nat_lt k middle) refl
-  where
-    by : (t : Bool) → nat_lt k middle ≡ t → number_at held k < n
-    by true is = let rise = number_rises held k middle order (grind (arith, nat_tests)) within in omega (arith, rise, less)
-    by false is = let same : middle ≡ k = grind (arith, nat_tests) in subst (λ (j : ℕ). number_at held j < n) same less
-
--- and of those behind it
-pub from_on : (held : List Held) (n middle : ℕ) → IsInOrder held → n < number_at held middle → (k : ℕ) → middle ≤ k → k < length held → n < number_at held k
-from_on held n middle order more k le within = by (nat_lt middle k) refl
-  where
-    by : (t : Bool) → nat_lt middle k ≡ t → n < number_at held k
-    by true is = let rise = number_rises held middle k order (grind (arith, nat_tests)) within in omega (arith, rise, more)
-    by false is = let same : middle ≡ k = grind (arith, nat_tests) in subst (λ (j : ℕ). n < number_at held j) same more

@@ -13,19 +13,5 @@ pub(crate) fn place_of(held: &[Held], number: InoNo) -> Result<usize, usize>
     ensures found { IfOk result (λ place. number_at held.now place ≡ number) }
     ensures gap { IfErr result (λ place. IsGap held.now number place) }
 {
-    let mut low = 0;
-    let mut high = held.len();
-    while low < high {
-        let middle = low + (high - low) / 2;
-        let there = held[middle].number;
-        if there == number {
-            return Ok(middle);
-        }
-        if there < number {
-            low = middle + 1;
-        } else {
-            high = middle;
-        }
-    }
-    Err(low)
+    held.binary_search_by_key(&number, |held| held.number)
 }

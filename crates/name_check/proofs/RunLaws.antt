@@ -14,12 +14,6 @@ is_of n b = nat_eq b.number n
 abbrev pub own : ℕ → List NodeBlock → List NodeBlock
 own n blocks = filter (is_of n) blocks
 
-pub up_to : (blocks : List NodeBlock) (n middle : ℕ) → NeverFall blocks → middle < length blocks → number_at blocks middle < n → (k : ℕ) → k < middle + 1 → number_at blocks k < n
-up_to blocks n middle order within less k lt = let rise = order k middle (omega (arith, lt)) within in omega (arith, rise, less)
-
-pub from_on : (blocks : List NodeBlock) (n middle : ℕ) → NeverFall blocks → n ≤ number_at blocks middle → (k : ℕ) → middle ≤ k → k < length blocks → n ≤ number_at blocks k
-from_on blocks n middle order more k le within = let rise = order middle k le within in omega (arith, rise, more)
-
 less_apart : (m n : ℕ) → m < n → nat_eq m n ≡ false
 less_apart m n lt = grind (arith, nat_tests)
 

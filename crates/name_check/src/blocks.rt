@@ -22,17 +22,7 @@ fn below(blocks: &[NodeBlock], number: u64) -> usize
     ensures before { (k : ℕ) → k < result → number_at blocks.now k < number }
     ensures behind { (k : ℕ) → result ≤ k → k < length blocks.now → number ≤ number_at blocks.now k }
 {
-    let mut low = 0;
-    let mut high = blocks.len();
-    while low < high {
-        let middle = low + (high - low) / 2;
-        if u64::from(blocks[middle].number) < number {
-            low = middle + 1;
-        } else {
-            high = middle;
-        }
-    }
-    low
+    blocks.partition_point(|there| u64::from(there.number) < number)
 }
 
 /// The blocks of one node. Beside these, no more blocks are looked at than a logarithm of all.

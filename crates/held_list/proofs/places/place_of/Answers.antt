@@ -1,35 +1,18 @@
-use Rattle.std.proofs.Common.{◌≡◌, ◌<◌, ◌+◌, ◌-◌, ◌/◌, ℕ, length, sym, ap, arith}
-use Rattle.std.proofs.lemmas.Bool.Decides.{nat_tests}
-use Rattle.std.proofs.lemmas.List.{get_or_read}
+use Rattle.std.proofs.Common.{rules}
+use Rattle.std.proofs.lemmas.Fn.{always_returns_same}
 use Rattle.held_list.specs.declared.held.Held.{Held}
-use Rattle.held_list.specs.Places.{number_at}
-use Rattle.held_list.proofs.OrderLaws.{up_to, from_on}
+use Rattle.held_list.proofs.Halves.{place_within, place_found, gap_found}
 use Rattle.held_list.proofs.places.place_of.Goals as goal
 
-pub loop-low-preserved-then-there-number-2 : goal.loop-low-preserved-then-there-number-2
-loop-low-preserved-then-there-number-2 c =
-    let inv = c.loop-low.invariant in
-    let middle : ℕ = c.loop-low.low + (c.loop-low.high - c.loop-low.low) / 2 in
-    let within : middle < length c.args.held.now = omega (arith, inv.high, c.loop-low-test.true) in
-    let is : number_at c.args.held.now middle ≡ c.index-held-middle.result.number = ap (λ (h : Held). h.number) (sym (get_or_read c.args.held.now middle _ within c.index-held-middle.is _)) in
-    let less : number_at c.args.held.now middle < c.args.number = grind (arith, nat_tests) in
-    record {
-      high = inv.high;
-      low = omega (arith, c.loop-low-test.true);
-      before = up_to c.args.held.now c.args.number middle c.requires within less;
-      behind = inv.behind;
-    }
+pub returns-clause-within : goal.returns-clause-within
+returns-clause-within c = place_within c.args.held.now c.binary_search_by_key.result c.binary_search_by_key.ensures.bound
 
-pub loop-low-preserved : goal.loop-low-preserved
-loop-low-preserved c =
-    let inv = c.loop-low.invariant in
-    let middle : ℕ = c.loop-low.low + (c.loop-low.high - c.loop-low.low) / 2 in
-    let within : middle < length c.args.held.now = omega (arith, inv.high, c.loop-low-test.true) in
-    let is : number_at c.args.held.now middle ≡ c.index-held-middle.result.number = ap (λ (h : Held). h.number) (sym (get_or_read c.args.held.now middle _ within c.index-held-middle.is _)) in
-    let more : c.args.number < number_at c.args.held.now middle = grind (arith, nat_tests) in
-    record {
-      high = omega (arith, inv.high, inv.low);
-      low = omega arith;
-      before = inv.before;
-      behind = from_on c.args.held.now c.args.number middle c.requires more;
-    }
+pub returns-clause-found : goal.returns-clause-found
+returns-clause-found c =
+    place_found c.args.number c.args.held.now c.binary_search_by_key.result
+    (c.binary_search_by_key.ensures.position (λ (h : Held). h.number) (always_returns_same _ _ _ (λ a r f k. search rules)))
+
+pub returns-clause-gap : goal.returns-clause-gap
+returns-clause-gap c =
+    gap_found c.args.number c.args.held.now c.binary_search_by_key.result c.requires c.binary_search_by_key.ensures.bound
+    (c.binary_search_by_key.ensures.position (λ (h : Held). h.number) (always_returns_same _ _ _ (λ a r f k. search rules)))
