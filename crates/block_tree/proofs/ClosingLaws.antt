@@ -18,7 +18,9 @@ use Rattle.block_tree.specs.Opened.{Opens, PartsStay, PartsFull, FitsHeight, Cha
 use Rattle.block_tree.specs.declared.root.TreeRoot.{TreeRoot}
 use Rattle.block_tree.proofs.EntryLaws.{same_list, some_nonzero}
 use Rattle.block_tree.proofs.NoteLaws.{refs-set, refs-append, times-append, settles_beside, settles_none}
-use Rattle.block_tree.proofs.LeafLaws.{refs_front, settles_then, refs-level, level_like, zeros_lead_nowhere, nonzero-cons}
+use Rattle.block_tree.specs.Order.{InTurn}
+use Rattle.block_tree.proofs.OrderLaws.{turn_none, turn_then, turn_like, turn_pages, turn_all, top_last}
+use Rattle.block_tree.proofs.LeafLaws.{settles_then, refs-level, level_like, zeros_lead_nowhere, nonzero-cons}
 use Rattle.block_tree.proofs.OpeningLaws.{no_leaf, block_at_leaf}
 
 -- a place at or past all changes
@@ -143,8 +145,11 @@ module _ {read : Blocks} {root : TreeRoot} {changes : List Change} {cut top : �
     top_is = opened.top_is;
     full = full_at edited;
     indexes = λ b. omega (arith, opened.indexes b, edited.indexes b, refs-set b leaves 0 new (omega (arith, long)), rest.indexes b);
-    pages = λ b. omega (arith, edited.pages b, rest.pages b, ap (λ (x : ℕ). refs b (x ∷ [])) first_is, refs_front b rewritten end);
   }
+
+  -- the pages are those of the leaf 0, and then of the others
+  pub leaves_in_turn : {m : Noted} → InTurn (nonzero (new ∷ [])) m n → InTurn (nonzero rewritten) m o
+  leaves_in_turn first_turn = turn_all rewritten end new (omega (arith, rest.long)) first_is first_turn rest.in_turn
 
   -- where the leaf 0 gives way, the pages of before are at most old index blocks and pages
   pub block_indexes : new ≡ 0 → (b : ℕ) → paged b n ≤ times b (tree_indexes read root) + paged b o
@@ -158,8 +163,8 @@ module _ {read : Blocks} {root : TreeRoot} {changes : List Change} {cut top : �
       all_zero zero lt = first_is ∙ zero_is
       all_zero (suc j) lt = none_at is (suc j) (omega arith) lt (emptied (suc j) (omega arith) lt)
 
-  pub block_pages : IsTrue over → new ≡ 0 → ((j : ℕ) → 1 ≤ j → j < 1024 → IsEmptied changes cut old j) → (b : ℕ) → paged b o ≤ paged b n
-  block_pages is zero_is emptied b = omega (arith, rest.pages b, refs_front b rewritten end, ap (λ (v : List ℕ). times b v) (none_left is zero_is emptied))
+  pub block_in_turn : IsTrue over → new ≡ 0 → ((j : ℕ) → 1 ≤ j → j < 1024 → IsEmptied changes cut old j) → InTurn [] n o
+  block_in_turn is zero_is emptied = turn_like (none_left is zero_is emptied) (leaves_in_turn (turn_none (nonzero (new ∷ [])) n n refl))
 
   -- where the leaf 0 gives way to its pointers
   pub block_settles : {m p : Noted} (data_ : List ℕ) → IsTrue over → new ≡ 0 → Settles (slice_index leaves 0 ∷ first) data_ m n → ((j : ℕ) → 1 ≤ j → j < 1024 → IsEmptied changes cut old j)
@@ -200,7 +205,7 @@ top_there read root k two some = some_block root.ptr (subst (λ (h : ℕ). 0 < l
     some_block zero lt = absurd (omega (arith, lt))
     some_block (suc p) lt = omega arith
 
-module _ {read : Blocks} {root : TreeRoot} {changes : List Change} {cut top : ℕ} {was leaves : List ℕ} {m n : Noted} {over : Bool} (has : HasLeaves read root changes cut over top was leaves m n) (long : length leaves ≡ 1024) where
+module _ {read : Blocks} {root : TreeRoot} {changes : List Change} {cut top : ℕ} {was leaves : List ℕ} {m n : Noted} {over : Bool} (has : HasLeaves read root changes cut over top was leaves m n) (turn : InTurn (nonzero leaves) m n) (long : length leaves ≡ 1024) where
   -- the leaf 0 alone
   pub tree_leaf : IsTrue over → FitsHeight read root cut 1 → ChangesFit 1 changes → IsTreeRewritten read root changes cut (record { height = 1; ptr = slice_index leaves 0 }) m (record n { dropped = n.dropped ++ nonzero (top ∷ []) })
   tree_leaf is fits all =
@@ -235,12 +240,9 @@ module _ {read : Blocks} {root : TreeRoot} {changes : List Change} {cut top : �
               has.indexes b,
               ap (λ (v : List ℕ). times b v) (nonzero_first leaves (omega (arith, long)) (λ j some lt. has.none is j some (omega (arith, lt, long)) (emptied j some (omega (arith, lt, long))))),
             );
-        pages = λ after stand stays b.
-            omega (
-              arith,
-              has.pages b,
-              ap (λ (v : List ℕ). times b v) (nonzero_first leaves (omega (arith, long)) (λ j some lt. has.none is j some (omega (arith, lt, long)) (emptied j some (omega (arith, lt, long))))),
-            );
+        in_turn = λ after stand stays.
+            turn_pages m n m (record n { dropped = n.dropped ++ nonzero (top ∷ []) }) refl refl
+            (turn_like (nonzero_first leaves (omega (arith, long)) (λ j some lt. has.none is j some (omega (arith, lt, long)) (emptied j some (omega (arith, lt, long))))) turn);
       }
 
   -- the leaves under a top index
@@ -279,21 +281,15 @@ module _ {read : Blocks} {root : TreeRoot} {changes : List Change} {cut top : �
           refs-append b (new ∷ []) (index_at after new),
           ap (λ (v : List ℕ). times b v) (renewed.entries after stand (has.top_is after stays)).some,
         );
-    pages = λ after stand stays b.
-        omega (
-          arith,
-          has.pages b,
-          renewed.pages b,
-          refs-append b (new ∷ []) (index_at after new),
-          ap (λ (v : List ℕ). times b v) (renewed.entries after stand (has.top_is after stays)).some,
-        );
+    in_turn = λ after stand stays.
+        turn_like (top_last leaves (index_at after new) new (sym (renewed.entries after stand (has.top_is after stays)).some)) (turn_then leaves (new ∷ []) turn renewed.in_turn);
   }
 
 -- the block of place 0 alone
 pub tree_block : {read : Blocks} {root : TreeRoot} {changes : List Change} {cut : ℕ} {ptrs : List ℕ} {m n : Noted} → length ptrs ≡ 1024 → IsLeafAfter changes cut (block_at read root) 0 ptrs
     → FitsHeight read root cut 0 → ChangesFit 0 changes → ((after : Blocks) → Stand n.pages after → PartsStay read root after → Settles (all_pointers read root) ptrs m n)
-    → ((b : ℕ) → paged b m ≤ times b (tree_indexes read root) + paged b n) → ((b : ℕ) → paged b n ≤ paged b m) → IsTreeRewritten read root changes cut (record { height = 0; ptr = slice_index ptrs 0 }) m n
-tree_block {read = read} {root = root} {changes = changes} {cut = cut} {ptrs = ptrs} long places fits all settles indexes pages = record {
+    → ((b : ℕ) → paged b m ≤ times b (tree_indexes read root) + paged b n) → InTurn [] m n → IsTreeRewritten read root changes cut (record { height = 0; ptr = slice_index ptrs 0 }) m n
+tree_block {read = read} {root = root} {changes = changes} {cut = cut} {ptrs = ptrs} long places fits all settles indexes turn = record {
   kept = λ after stand stays high. absurd (omega (arith, high));
   kept_top = λ after stand stays two high. absurd (omega (arith, high));
   places = λ after stand stays. by_leaves after new at (λ j lt i small. ⊎_elim
@@ -306,7 +302,7 @@ tree_block {read = read} {root = root} {changes = changes} {cut = cut} {ptrs = p
   };
   full = λ after stand stays full. tt;
   indexes = λ after stand stays b. omega (arith, indexes b);
-  pages = λ after stand stays b. omega (arith, pages b);
+  in_turn = λ after stand stays. turn;
 }
   where
     new : TreeRoot
@@ -332,5 +328,5 @@ tree_like {read = read} {root = root} ys {cut = cut} like made = record {
   settles = made.settles;
   full = made.full;
   indexes = made.indexes;
-  pages = made.pages;
+  in_turn = made.in_turn;
 }

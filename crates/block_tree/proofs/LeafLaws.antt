@@ -1,5 +1,5 @@
 -- Leaves after a cut and changes.
-use Rattle.std.proofs.Common.{◌≡◌, ◌<◌, ◌≤◌, ℕ, zero, suc, ◌+◌, ◌*◌, ◌==◌, List, [], ◌∷◌, ◌++◌, length, take, set, refl, ap, sym, ◌∙◌, subst, arith, ⊎_elim}
+use Rattle.std.proofs.Common.{◌≡◌, ◌<◌, ◌≤◌, ℕ, zero, suc, ◌+◌, ◌*◌, ◌==◌, List, [], ◌∷◌, ◌++◌, length, take, drop, set, refl, ap, sym, ◌∙◌, subst, arith, ⊎_elim}
 use Rattle.std.specs.Prelude.{slice_index, if◌then◌else◌, not, Bool, true, false}
 use Rattle.std.specs.List.{flat_map, sum_by}
 use Rattle.std.proofs.lemmas.Bool.{cases_eq}
@@ -18,6 +18,7 @@ use Rattle.block_tree.specs.Renewal.{IsRenewed, IsNoted}
 use Rattle.block_tree.specs.Leaf.{StaysAt, FullAt, IsLeafEdited, IsLeafRewritten, IsFirstRewritten, IsUntouched, AreLeavesRewritten, level}
 use Rattle.block_tree.proofs.EditLaws.{changed_elsewhere, kept_below}
 use Rattle.block_tree.proofs.EntryLaws.{same_list, some_nonzero}
+use Rattle.block_tree.proofs.OrderLaws.{turn_none, turn_pages, turn_more}
 use Rattle.block_tree.proofs.NoteLaws.{refs-set, refs-append, settles_beside, settles_none}
 
 pub stand_same : (m n : Noted) (read : Blocks) → n.pages ≡ m.pages → Stand n.pages read → Stand m.pages read
@@ -43,7 +44,7 @@ zeros_lead_nowhere (p ∷ ps) zeros =
 pub leaf_is_edited : {changes : List Change} {cut k leaf new : ℕ} {was ptrs : List ℕ} {m n o : Noted}
     → length ptrs ≡ 1024 → IsEdit changes cut k was ptrs → IsRenewed leaf was ptrs new m n → IsNoted was ptrs n o → length was ≡ 1024
     → IsLeafEdited changes cut k leaf was new m o
-leaf_is_edited {changes = changes} {cut = cut} {k = k} {new = new} {was = was} {ptrs = ptrs} {n = n} {o = o} long edits renewed noted as_long = record {
+leaf_is_edited {changes = changes} {cut = cut} {k = k} {new = new} {was = was} {ptrs = ptrs} {m = m} {n = n} {o = o} long edits renewed noted as_long = record {
   kept = λ old before same i small some there.
       let is : ptrs ≡ was = same_list ptrs was (long ∙ sym as_long) (λ j lt. edits old before j (omega (arith, lt, long)) ∙ (same j (omega (arith, lt, long)) ∙ sym (before j (omega (arith, lt, long))))) in
       (renewed.kept there is (λ none. some_nonzero was i (subst (λ (x : ℕ). 0 < x) (sym (before i small)) some) (ap nonzero (sym is) ∙ none))).0;
@@ -56,7 +57,7 @@ leaf_is_edited {changes = changes} {cut = cut} {k = k} {new = new} {was = was} {
       let e = (renewed.entries after (stand_same n o after noted.pages stand) same).some in
       omega (arith, some, renewed.none (sym e ∙ empty));
   indexes = λ b. omega (arith, renewed.indexes b, ap (λ (ps : List Page). times b (page_blocks ps)) noted.pages);
-  pages = λ b. omega (arith, renewed.pages b, ap (λ (ps : List Page). times b (page_blocks ps)) noted.pages);
+  in_turn = turn_pages m n m o refl noted.pages renewed.in_turn;
 }
 
 pub takes_noted : {was ptrs : List ℕ} {m n o : Noted} → Takes m n → IsNoted was ptrs n o → Takes m o
@@ -81,7 +82,7 @@ leaf_is_rewritten {read = read} {leaf = leaf} {was = was} same edited = record {
   none = λ is old before emptied. edited.none old (λ i lt. sym (same.each i) ∙ before i lt) emptied;
   full = λ after stand stays was_full. edited.full after stand (λ some. here after stays);
   indexes = edited.indexes;
-  pages = edited.pages;
+  in_turn = edited.in_turn;
 }
   where
     here : (after : Blocks) → StaysAt read after leaf → SameEntries (index_at after leaf) was
@@ -99,7 +100,7 @@ leaf_untouched {read = read} {changes = changes} {cut = cut} k leaf m part_is un
   none = λ is. absurd (untouched.passed is);
   full = λ after stand stays full some. subst (λ (v : List ℕ). nonzero v ≡ [] → ⊥) (sym (index_stays read after leaf stays)) (full some);
   indexes = λ b. omega arith;
-  pages = λ b. omega arith;
+  in_turn = turn_none (nonzero (leaf ∷ [])) m m refl;
 }
 
 -- the leaf 0, made of the block of place 0, and as it was on the disk
@@ -111,7 +112,7 @@ first_made leaf {first = first} {was = was} none same edited = record {
   settles = λ after stand stays. settles_like (nonzero-cons leaf was first (sym same.some)) refl (edited.settles after stand (λ some. absurd (omega (arith, some, none))));
   full = λ after stand stays full. edited.full after stand (λ some. absurd (omega (arith, some, none)));
   indexes = edited.indexes;
-  pages = edited.pages;
+  in_turn = edited.in_turn;
 }
 
 pub first_kept : {read : Blocks} {changes : List Change} {cut : ℕ} {over : Bool} (leaf : ℕ) {new : ℕ} {m n : Noted} → IsLeafRewritten read changes cut over 0 leaf new m n
@@ -122,7 +123,7 @@ first_kept {read = read} leaf {new = new} {m = m} {n = n} rewritten = record {
   settles = λ after stand stays. subst (λ (v : List ℕ). Settles (leaf ∷ v) (new ∷ index_at after new) m n) (index_stays read after leaf stays) (rewritten.settles after stand stays);
   full = λ after stand stays full. rewritten.full after stand stays full;
   indexes = rewritten.indexes;
-  pages = rewritten.pages;
+  in_turn = rewritten.in_turn;
 }
 
 -- the pointers of a level, leaf by leaf
@@ -148,23 +149,6 @@ level_set read xs k new lt s = record {
   each = λ b. omega (arith, refs-level b read xs, refs-level b read (set xs k new), sum_by-set (λ t. refs b (t ∷ index_at read t)) xs k new 0 lt, s.each b);
 }
 
--- the first leaves of a list
-take_first : (xs : List ℕ) → 0 < length xs → take 1 xs ≡ slice_index xs 0 ∷ []
-take_first [] some = absurd (omega (arith, some))
-take_first (x ∷ xs) some = refl
-
-front_set : (b : ℕ) (xs : List ℕ) (k new : ℕ) → k < length xs → refs b (take (suc k) (set xs k new)) ≡ refs b (take k xs) + refs b (new ∷ [])
-front_set b [] k new lt = absurd (omega (arith, lt))
-front_set b (x ∷ xs) zero new lt = omega arith
-front_set b (x ∷ xs) (suc k) new lt =
-    let rest = front_set b xs k new (omega (arith, lt)) in
-    omega (arith, rest, refs-append b (x ∷ []) (take (suc k) (set xs k new)), refs-append b (x ∷ []) (take k xs))
-
-pub refs_front : (b : ℕ) (xs : List ℕ) (i : ℕ) → refs b (take i xs) ≤ refs b xs
-refs_front b xs zero = omega arith
-refs_front b [] (suc i) = omega arith
-refs_front b (x ∷ xs) (suc i) = let rest = refs_front b xs i in omega (arith, rest, refs-append b (x ∷ []) (take i xs), refs-append b (x ∷ []) xs)
-
 module _ (read : Blocks) (changes : List Change) (cut : ℕ) (over : Bool) (before : List ℕ) where
   pub leaves_none : (m : Noted) → length before ≡ 1024 → AreLeavesRewritten read changes cut over 1 before before m m
   leaves_none m long = record {
@@ -177,7 +161,7 @@ module _ (read : Blocks) (changes : List Change) (cut : ℕ) (over : Bool) (befo
     none = λ is old was j some lt. absurd (omega (arith, some, lt));
     full = λ after stand stays was_full j some lt. absurd (omega (arith, some, lt));
     indexes = λ b. omega arith;
-    pages = λ b. omega (arith, ap (λ (v : List ℕ). refs b v) (take_first before (omega (arith, long))));
+    in_turn = turn_none (nonzero (drop 1 (take 1 before))) m m refl;
   }
 
   pub leaves_more : (k : ℕ) (leaves : List ℕ) (new : ℕ) {m n o : Noted} → 1 ≤ k → k < 1024 → AreLeavesRewritten read changes cut over k before leaves m n
@@ -216,16 +200,7 @@ module _ (read : Blocks) (changes : List Change) (cut : ℕ) (over : Bool) (befo
             (λ other. subst (λ (t : ℕ). FullAt after t) (sym (get_or-set_other leaves k j new 0 other)) (so_far.full after (takes.grows after stand) stays was_full j at_least (omega (arith, other, below))))
             (cases_eq j k);
         indexes = λ b. omega (arith, so_far.indexes b, one.indexes b, refs-set b leaves k new in_list);
-        pages = λ b.
-            let next : k + 1 ≡ suc k = omega arith in
-            omega (
-              arith,
-              so_far.pages b,
-              one.pages b,
-              front_set b leaves k new in_list,
-              ap (λ (i : ℕ). refs b (take i (set leaves k new))) next,
-              ap (λ (x : ℕ). refs b (x ∷ [])) (get_or-set_other leaves k 0 new 0 (λ e. omega (arith, e, some))),
-            );
+        in_turn = turn_more leaves k new some in_list so_far.in_turn one.in_turn;
       }
 
 -- a sum in which zeros count nothing

@@ -7,6 +7,7 @@ pub mod LeafLaws
 pub mod ListingLaws
 pub mod NoteLaws
 pub mod OpeningLaws
+pub mod OrderLaws
 pub mod Pairs
 pub mod PartLaws
 pub mod PlanLaws

@@ -8,6 +8,7 @@ use Rattle.block_format.specs.Index.{IsPointer}
 use Rattle.place_words.specs.Different.{is_among}
 use Rattle.block_tree.specs.Tree.{Blocks}
 use Rattle.block_tree.specs.Notes.{Noted, Takes, Uses, AreSound, no_notes, notes_in, page_blocks}
+use Rattle.block_tree.specs.Order.{IsSublist, InTurn}
 use Rattle.block_tree.specs.Pages.{IsIndexPage}
 use Rattle.block_tree.specs.Opened.{IsTreeRewritten}
 use Rattle.block_tree.specs.declared.plan.Rewritten.{Rewritten}
@@ -37,6 +38,10 @@ module _ {new : TreeRoot} {m n : Noted} (free left : List ℕ) (begun : m ≡ no
 
 pub sound_begun : (m : Noted) (free : List ℕ) → m ≡ no_notes free → (g : Layout) → All (IsPointer g) free → AreSound g m
 sound_begun m free begun g all = subst (λ (y : Noted). AreSound g y) (sym begun) (record { pages = All-nil (IsIndexPage g); free = all })
+
+-- where nothing was noted before, the pages are those in turn
+pub turn_begun : (turn free : List ℕ) (w : Rewritten) (left : List ℕ) → InTurn turn (no_notes free) (notes_in w left) → IsSublist (page_blocks w.pages) turn
+turn_begun turn free w left is = subst (λ (v : List ℕ). IsSublist v turn) (sym is.noted) is.order
 
 -- none of a list is among a part of it
 pub apart_front : (xs ys : List ℕ) (b : ℕ) → is_among (xs ++ ys) b ≡ false → is_among xs b ≡ false

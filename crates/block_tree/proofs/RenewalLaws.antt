@@ -14,6 +14,7 @@ use Rattle.block_tree.proofs.EntryLaws.{index_there, same_refl}
 use Rattle.block_format.specs.Index.{index_bytes}
 use Rattle.block_tree.proofs.UseLaws.{uses_none, uses_page}
 use Rattle.block_tree.proofs.SoundLaws.{sound_same, sound_page}
+use Rattle.block_tree.proofs.OrderLaws.{turn_none, turn_page, turn_like}
 use Rattle.block_tree.proofs.NoteLaws.{times-append, refs-one, paged_more, stand_front, stand_last, takes_one}
 
 -- where none leads to a block, each is 0
@@ -45,7 +46,7 @@ module _ (old : ℕ) (was ptrs : List ℕ) (m : Noted) where
     kept = λ is same some. absurd (some none);
     none = λ is. refl;
     indexes = λ b. omega arith;
-    pages = λ b. omega arith;
+    in_turn = turn_none [] m (record m { dropped = m.dropped ++ nonzero (old ∷ []) }) refl;
     uses = uses_none [] m (record m { dropped = m.dropped ++ nonzero (old ∷ []) }) refl refl;
     sound = λ g all is sound. (sound_same g m (record m { dropped = m.dropped ++ nonzero (old ∷ []) }) refl refl sound, inl refl);
   }
@@ -60,7 +61,7 @@ module _ (old : ℕ) (was ptrs : List ℕ) (m : Noted) where
     kept = λ there is some. (refl, refl);
     none = λ none. absurd (some none);
     indexes = λ b. omega arith;
-    pages = λ b. omega arith;
+    in_turn = turn_none (nonzero (old ∷ [])) m m refl;
     uses = uses_none [] m m refl refl;
     sound = λ g all is sound. (sound, is);
   }
@@ -80,7 +81,7 @@ module _ (old : ℕ) (was ptrs : List ℕ) (m : Noted) where
         kept = λ is same is_some. absurd (other is same);
         none = λ is. absurd (not_none is);
         indexes = λ b. omega (arith, refs-one b at, paged_more b m.pages page);
-        pages = λ b. omega (arith, paged_more b m.pages page, ap (λ (xs : List ℕ). times b xs) (nonzero_is at some));
+        in_turn = turn_like (sym (nonzero_is at some)) (turn_page m page left (m.added ++ at ∷ []) (m.dropped ++ nonzero (old ∷ [])));
         uses = uses_page m page left (m.dropped ++ nonzero (old ∷ []));
         sound = λ g all is sound. sound_page g m page ptrs left (m.added ++ at ∷ []) (m.dropped ++ nonzero (old ∷ [])) e long spelled all sound;
       }

@@ -1,10 +1,11 @@
 -- A leaf after a cut and changes.
-use Rattle.std.specs.Prelude.{◌≡◌, ◌≢◌, ◌<◌, ◌≤◌, ℕ, ◌+◌, ◌*◌, Bool, IsTrue, List, [], ◌∷◌, ◌++◌, length, slice_index, take}
+use Rattle.std.specs.Prelude.{◌≡◌, ◌≢◌, ◌<◌, ◌≤◌, ℕ, ◌+◌, ◌*◌, Bool, IsTrue, List, [], ◌∷◌, ◌++◌, length, slice_index, take, drop}
 use Rattle.std.specs.List.{flat_map}
 use Rattle.vol_numbers.specs.declared.runs.Change.{Change}
 use Rattle.block_tree.specs.Tree.{Blocks, index_at, nonzero}
 use Rattle.block_tree.specs.Parts.{SameEntries}
 use Rattle.block_tree.specs.Notes.{Noted, Stand, Settles, refs, paged}
+use Rattle.block_tree.specs.Order.{InTurn}
 use Rattle.block_tree.specs.Edit.{IsLeafBefore, IsLeafAfter, IsEmptied, KeepsLeaf}
 
 -- the block is there as it was, where there is one
@@ -25,7 +26,7 @@ pub record IsLeafEdited (changes : List Change) (cut k leaf : ℕ) (was : List �
   pub none : (old : ℕ → ℕ) → IsLeafBefore old k was → IsEmptied changes cut old k → new ≡ 0
   pub full : (after : Blocks) → Stand n.pages after → (0 < leaf → SameEntries (index_at after leaf) was) → FullAt after new
   pub indexes : (b : ℕ) → refs b (new ∷ []) + paged b m ≤ refs b (leaf ∷ []) + paged b n
-  pub pages : (b : ℕ) → paged b n ≤ paged b m + refs b (new ∷ [])
+  pub in_turn : InTurn (nonzero (new ∷ [])) m n
 
 -- Of a leaf on the disk. One that isn't gone over is as it was: it is full if it was, and it may have no place left.
 pub record IsLeafRewritten (read : Blocks) (changes : List Change) (cut : ℕ) (over : Bool) (k leaf new : ℕ) (m n : Noted) : Type 0 where
@@ -36,7 +37,7 @@ pub record IsLeafRewritten (read : Blocks) (changes : List Change) (cut : ℕ) (
   pub none : IsTrue over → (old : ℕ → ℕ) → IsLeafBefore old k (index_at read leaf) → IsEmptied changes cut old k → new ≡ 0
   pub full : (after : Blocks) → Stand n.pages after → StaysAt read after leaf → FullAt read leaf → FullAt after new
   pub indexes : (b : ℕ) → refs b (new ∷ []) + paged b m ≤ refs b (leaf ∷ []) + paged b n
-  pub pages : (b : ℕ) → paged b n ≤ paged b m + refs b (new ∷ [])
+  pub in_turn : InTurn (nonzero (new ∷ [])) m n
 
 -- Neither the cut nor one of its changes touches the leaf k, and it isn't gone over with all leaves.
 pub record IsUntouched (over : Bool) (part : List Change) (cut k : ℕ) : Type 0 where
@@ -51,7 +52,7 @@ pub record IsFirstRewritten (read : Blocks) (changes : List Change) (cut leaf : 
   pub settles : (after : Blocks) → Stand n.pages after → StaysAt read after leaf → Settles (leaf ∷ first) (new ∷ index_at after new) m n
   pub full : (after : Blocks) → Stand n.pages after → StaysAt read after leaf → FullAt read leaf → FullAt after new
   pub indexes : (b : ℕ) → refs b (new ∷ []) + paged b m ≤ refs b (leaf ∷ []) + paged b n
-  pub pages : (b : ℕ) → paged b n ≤ paged b m + refs b (new ∷ [])
+  pub in_turn : InTurn (nonzero (new ∷ [])) m n
 
 -- the pointers of a top index and of its leaves
 abbrev pub level : Blocks → List ℕ → List ℕ
@@ -74,4 +75,4 @@ pub record AreLeavesRewritten (read : Blocks) (changes : List Change) (cut : ℕ
   pub full : (after : Blocks) → Stand n.pages after → ((j : ℕ) → 1 ≤ j → StaysAt read after (slice_index before j)) → ((j : ℕ) → 1 ≤ j → FullAt read (slice_index before j))
       → (j : ℕ) → 1 ≤ j → j < end → FullAt after (slice_index leaves j)
   pub indexes : (b : ℕ) → refs b leaves + paged b m ≤ refs b before + paged b n
-  pub pages : (b : ℕ) → paged b n + refs b (slice_index leaves 0 ∷ []) ≤ paged b m + refs b (take end leaves)
+  pub in_turn : InTurn (nonzero (drop 1 (take end leaves))) m n

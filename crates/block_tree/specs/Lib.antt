@@ -4,6 +4,7 @@ pub mod Laws
 pub mod Leaf
 pub mod Notes
 pub mod Opened
+pub mod Order
 pub mod Pages
 pub mod Parts
 pub mod Planned

@@ -8,6 +8,7 @@ use Rattle.block_tree.specs.Parts.{all_pointers, SameEntries}
 use Rattle.block_tree.specs.Edit.{cut_at, changed_at, IsLeafBefore, IsLeafAfter, IsEmptied, KeepsLeaf}
 use Rattle.block_tree.specs.Leaf.{StaysAt, FullAt, level}
 use Rattle.block_tree.specs.Notes.{Noted, Stand, Settles, refs, paged}
+use Rattle.block_tree.specs.Order.{InTurn, leaves_then_top}
 use Rattle.block_tree.specs.declared.root.TreeRoot.{TreeRoot}
 
 -- the index blocks of a tree are there as they were, block by block
@@ -69,7 +70,6 @@ pub record HasLeaves (read : Blocks) (root : TreeRoot) (changes : List Change) (
   pub top_is : (after : Blocks) → PartsStay read root after → 0 < top → SameEntries (index_at after top) was
   pub full : (after : Blocks) → Stand n.pages after → PartsStay read root after → PartsFull read root → (j : ℕ) → FullAt after (slice_index leaves j)
   pub indexes : (b : ℕ) → refs b (top ∷ []) + refs b leaves + paged b m ≤ times b (tree_indexes read root) + paged b n
-  pub pages : (b : ℕ) → paged b n ≤ paged b m + refs b leaves
 
 -- The leaf 0 gives way to the pointers that the cut and the changes make of its own, and the first of them is this block.
 pub record IsGivenWay (changes : List Change) (cut leaf : ℕ) (first : List ℕ) (ptr : ℕ) (m n : Noted) : Type 0 where
@@ -90,5 +90,5 @@ pub record IsTreeRewritten (read : Blocks) (root : TreeRoot) (changes : List Cha
   pub full : (after : Blocks) → Stand n.pages after → PartsStay read root after → PartsFull read root → PartsFull after new
   -- each new index block is an old one or a page's
   pub indexes : (after : Blocks) → Stand n.pages after → PartsStay read root after → (b : ℕ) → times b (tree_indexes after new) + paged b m ≤ times b (tree_indexes read root) + paged b n
-  -- and each new page is one
-  pub pages : (after : Blocks) → Stand n.pages after → PartsStay read root after → (b : ℕ) → paged b n ≤ paged b m + times b (tree_indexes after new)
+  -- and the new pages are some of them, the leaves first
+  pub in_turn : (after : Blocks) → Stand n.pages after → PartsStay read root after → InTurn (leaves_then_top after new) m n

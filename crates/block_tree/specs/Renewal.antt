@@ -6,6 +6,7 @@ use Rattle.place_words.specs.Different.{times}
 use Rattle.block_tree.specs.Tree.{Blocks, index_at, nonzero}
 use Rattle.block_tree.specs.Parts.{SameEntries}
 use Rattle.block_tree.specs.Notes.{Noted, Stand, Settles, Takes, Uses, AreSound, brought, refs, paged}
+use Rattle.block_tree.specs.Order.{InTurn}
 
 -- A fresh block is needed: a pointer leads to a block, and there is no old block that has just these pointers.
 pub record NeedsBlock (old : ℕ) (was ptrs : List ℕ) : Type 0 where
@@ -25,7 +26,7 @@ pub record IsRenewed (old : ℕ) (was ptrs : List ℕ) (new : ℕ) (m n : Noted)
   -- the new block is the old one or a page's
   pub indexes : (b : ℕ) → refs b (new ∷ []) + paged b m ≤ refs b (old ∷ []) + paged b n
   -- a new page is the new block's
-  pub pages : (b : ℕ) → paged b n ≤ paged b m + refs b (new ∷ [])
+  pub in_turn : InTurn (nonzero (new ∷ [])) m n
   pub uses : Uses [] m n
   -- the page that is new is in the grammar
   pub sound : (g : Layout) → All (IsPointer g) ptrs → IsPointer g old → AreSound g m → AreSound g n × IsPointer g new

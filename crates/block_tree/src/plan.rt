@@ -12,6 +12,7 @@ ghost use Rattle.block_tree.specs.Tree.{Blocks, blocks_in, IsFull};
 ghost use Rattle.block_tree.specs.Root.{block_at, leaf_at, tree_pairs, tree_indexes, tree_pointers, IsRoot, Stays, KeepsTop};
 ghost use Rattle.block_tree.specs.Notes.{Stand, Uses, no_notes, notes_in, page_blocks, change_blocks};
 ghost use Rattle.block_tree.specs.Opened.{FitsHeight, ChangesFit, IsTreeRewritten};
+ghost use Rattle.block_tree.specs.Order.{IsSublist, leaves_then_top};
 ghost use Rattle.block_tree.specs.Pages.{IsIndexPage, LeadInto};
 ghost use Rattle.block_tree.specs.Edit.{cut_at, changed_at, leaves_of, portion, AreInOrder, KeepsLeaf};
 ghost use Rattle.block_tree.specs.Causes.{HasTreeCause, IsTreeDamage};
@@ -71,6 +72,9 @@ pub fn rewrite<D: Disk>(
     // Each page is one of its index blocks.
     ensures pages { IfOk result (λ w. IsTrue D.tells → (after : Blocks) → Stand w.pages after → Stays (blocks_in (D.state disk.old).contents) root.now after
         → (b : ℕ) → times b (page_blocks w.pages) ≤ times b (tree_indexes after w.root)) }
+    // In the order of the pages, their blocks are those of leaves, by position, and then that of the top index.
+    ensures in_order { IfOk result (λ w. IsTrue D.tells → (after : Blocks) → Stand w.pages after → Stays (blocks_in (D.state disk.old).contents) root.now after
+        → IsSublist (page_blocks w.pages) (leaves_then_top after w.root)) }
     // A leaf whose places have the blocks that they had keeps its block, where a leaf is left,
     ensures kept { IfOk result (λ w. IsTrue D.tells → (after : Blocks) → Stand w.pages after → Stays (blocks_in (D.state disk.old).contents) root.now after → 1 ≤ w.root.height → (k : ℕ) → k < 1024
         → KeepsLeaf changes.now cut_to (block_at (blocks_in (D.state disk.old).contents) root.now) k (leaf_at (blocks_in (D.state disk.old).contents) root.now k) (leaf_at after w.root k)) }

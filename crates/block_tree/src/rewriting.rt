@@ -5,12 +5,13 @@ ghost use Rattle.vol_numbers.specs.Layout.{Layout};
 ghost use Rattle.vol_numbers.specs.declared.runs.Change.{Change as ChangeOf};
 ghost use Rattle.disk_model.specs.Past.{Adds};
 ghost use Rattle.block_format.specs.Index.{IsPointer};
-ghost use Rattle.block_tree.specs.Tree.{Blocks, blocks_in};
+ghost use Rattle.block_tree.specs.Tree.{Blocks, blocks_in, nonzero};
 ghost use Rattle.block_tree.specs.Root.{IsRoot};
 ghost use Rattle.block_tree.specs.declared.root.TreeRoot.{TreeRoot as RootOf};
 ghost use Rattle.place_words.specs.Different.{different};
 ghost use Rattle.block_tree.specs.Edit.{leaves_of, portion, AreInOrder};
 ghost use Rattle.block_tree.specs.Notes.{Noted, Takes, Uses, AreSound};
+ghost use Rattle.block_tree.specs.Order.{InTurn};
 ghost use Rattle.block_tree.specs.Pages.{LeadInto};
 ghost use Rattle.block_tree.specs.Opened.{FitsHeight, ChangesFit, HasLeaves, IsGivenWay, IsTreeRewritten, first_of};
 ghost use Rattle.block_tree.specs.Causes.{HasTreeCause, IsTreeDamage};
@@ -51,6 +52,8 @@ fn rewrite_leaves<D: Disk>(
     requires fits { IsTrue D.tells → FitsHeight (blocks_in (D.state disk.old).contents) root.now edit.now.cut_to edit.now.height }
     requires free { different (leaves_of edit.now.changes.now) + 3 ≤ length notes.old.free }
     ensures leaves { IfOk result (λ l. IsTrue D.tells → HasLeaves (blocks_in (D.state disk.old).contents) root.now edit.now.changes.now edit.now.cut_to (nat_lt edit.now.height 2) l.top l.was.ptrs l.leaves.ptrs notes.old notes.new) }
+    // The pages are those of leaves, by position.
+    ensures in_turn { IfOk result (λ l. IsTrue D.tells → InTurn (nonzero l.leaves.ptrs) notes.old notes.new) }
     ensures takes { OnOk result (Takes notes.old notes.new) }
     ensures left { OnOk result (1 ≤ length notes.new.free) }
     ensures uses { OnOk result (Uses edit.now.changes.now notes.old notes.new) }
@@ -87,7 +90,7 @@ fn put_root(
     requires at_most { height ≤ 2 }
     requires free { 1 ≤ length notes.old.free }
     ensures rewritten { IfOk result (λ ptr. (read : Blocks) (root : RootOf) (changes : List ChangeOf) (cut : ℕ) (m : Noted)
-        → HasLeaves read root changes cut (nat_lt height 2) top was.now.ptrs leaves.now.ptrs m notes.old → FitsHeight read root cut height → ChangesFit height changes
+        → HasLeaves read root changes cut (nat_lt height 2) top was.now.ptrs leaves.now.ptrs m notes.old → InTurn (nonzero leaves.now.ptrs) m notes.old → FitsHeight read root cut height → ChangesFit height changes
         → IsTreeRewritten read root changes cut (record { height = height; ptr = ptr }) m notes.new) }
     ensures takes { OnOk result (Takes notes.old notes.new) }
     ensures uses { OnOk result (Uses [] notes.old notes.new) }

@@ -4,9 +4,11 @@ use Rattle.block_format.specs.Inode.{blocks_of, height_of}
 use Rattle.place_words.specs.Different.{times, is_among}
 use Rattle.block_tree.specs.Tree.{blocks_in}
 use Rattle.block_tree.specs.Notes.{page_blocks, change_blocks}
+use Rattle.block_tree.specs.Order.{leaves_then_top}
 use Rattle.block_tree.proofs.PartLaws.{parts_stay, parts_full, whole_full, pointers_listed, tree_counted}
+use Rattle.block_tree.proofs.OrderLaws.{turn_paged, order_times}
 use Rattle.block_tree.proofs.UseLaws.{among_either}
-use Rattle.block_tree.proofs.PlanLaws.{apart_front}
+use Rattle.block_tree.proofs.PlanLaws.{apart_front, turn_begun}
 use Rattle.block_tree.proofs.plan.rewrite.Goals as goal
 
 pub plan_changes-requires-clause-changes : goal.plan_changes-requires-clause-changes
@@ -65,7 +67,15 @@ returns-clause-pages g c tells after stand stays b =
     let root = c.args.root.now in
     let w = c.in_ok-made.made in
     let made = c.in_ok-made.ensures.rewritten tells in
-    omega (arith, made.pages after stand (parts_stay read after root.height root.ptr stays) b)
+    omega (arith, turn_paged b (made.in_turn after stand (parts_stay read after root.height root.ptr stays)), order_times b after w.root.height w.root.ptr)
+
+pub returns-clause-in_order : goal.returns-clause-in_order
+returns-clause-in_order g c tells after stand stays =
+    let read = blocks_in (g.D.Disk.state c.args.disk.now).contents in
+    let root = c.args.root.now in
+    let w = c.in_ok-made.made in
+    let made = c.in_ok-made.ensures.rewritten tells in
+    turn_begun (leaves_then_top after w.root) c.args.free.now w c.plan_changes.new.free (made.in_turn after stand (parts_stay read after root.height root.ptr stays))
 
 pub returns-clause-kept : goal.returns-clause-kept
 returns-clause-kept g c tells after stand stays high k lt =

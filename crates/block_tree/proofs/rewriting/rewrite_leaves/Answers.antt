@@ -8,6 +8,7 @@ use Rattle.block_tree.specs.Tree.{blocks_in}
 use Rattle.block_tree.specs.Leaf.{AreLeavesRewritten, IsFirstRewritten}
 use Rattle.block_tree.specs.Opened.{first_of}
 use Rattle.block_tree.proofs.RoomLaws.{whole_room}
+use Rattle.block_tree.proofs.OrderLaws.{turn_all}
 use Rattle.block_tree.proofs.LeafLaws.{takes_then}
 use Rattle.block_tree.proofs.UseLaws.{uses_all}
 use Rattle.block_tree.proofs.SoundLaws.{all_first}
@@ -41,6 +42,12 @@ returns-clause-leaves g c tells =
     let low = c.end_of-end.ensures.low ne in
     (low.0, λ j some lt. emptied_leaf read root edit.changes.now edit.cut_to edit.height j (c.requires.fits tells) c.requires.changes (low_power edit.height low.1) some lt))
     c.end_of-end.ensures.at_most first
+
+pub returns-clause-in_turn : goal.returns-clause-in_turn
+returns-clause-in_turn g c tells =
+    turn_all c.rewrite_rest.new.leaves.ptrs c.end_of-end.result c.in_ok-first.first (omega (arith, c.in_ok-rewrite_rest.ensures.long))
+    (c.in_ok-rewrite_rest.ensures.first ∙ get_or-set_same c.in_ok-opened.opened.leaves.ptrs 0 c.in_ok-first.first 0 (omega arith))
+    (c.in_ok-first.ensures.rewritten tells).in_turn (c.in_ok-rewrite_rest.ensures.rewritten tells).in_turn
 
 pub returns-clause-takes : goal.returns-clause-takes
 returns-clause-takes g c = takes_then c.in_ok-first.ensures.takes c.in_ok-rewrite_rest.ensures.takes

@@ -14,10 +14,11 @@ use Rattle.block_tree.specs.Leaf.{AreLeavesRewritten}
 use Rattle.block_tree.specs.Opened.{IsGivenWay, IsTreeRewritten, first_of}
 use Rattle.block_tree.specs.declared.root.TreeRoot.{TreeRoot}
 use Rattle.block_tree.proofs.RoomLaws.{rest_room}
+use Rattle.block_tree.proofs.OrderLaws.{turn_pages}
 use Rattle.block_tree.proofs.LeafLaws.{takes_like, stand_same}
 use Rattle.block_tree.proofs.UseLaws.{uses_none, uses_then, uses_all}
 use Rattle.block_tree.proofs.SoundLaws.{sound_same}
-use Rattle.block_tree.proofs.ClosingLaws.{block_settles, block_indexes, block_pages, tree_block, settles_remove, emptied_leaf}
+use Rattle.block_tree.proofs.ClosingLaws.{block_settles, block_indexes, block_in_turn, tree_block, settles_remove, emptied_leaf}
 use Rattle.block_tree.proofs.rewriting.rewrite_to_block.Goals as goal
 
 pub rewrite_rest-requires-clause-leaves : goal.rewrite_rest-requires-clause-leaves
@@ -64,14 +65,8 @@ returns-clause-rewritten g c tells =
       ap (λ (ps : List Page). times b (page_blocks ps)) pages,
       ap (λ (ps : List Page). times b (page_blocks ps)) c.in_ok-ptr.ensures.pages,
     ))
-    (λ b.
-    omega (
-      arith,
-      block_pages opened (omega arith) 0 c.in_ok-rewrite_rest.ensures.takes over end c.rewrite_rest.new.leaves.ptrs rest
-          (λ ne. ((c.end_of.ensures.low ne).0, emptied)) c.end_of.ensures.at_most is_over refl emptied b,
-      ap (λ (ps : List Page). times b (page_blocks ps)) pages,
-      ap (λ (ps : List Page). times b (page_blocks ps)) c.in_ok-ptr.ensures.pages,
-    )) in
+    (turn_pages c.give_way.new.notes c.rewrite_rest.new.notes c.args.notes.now c.remove.new.self (sym c.in_ok-ptr.ensures.pages) pages
+    (block_in_turn opened (omega arith) 0 c.in_ok-rewrite_rest.ensures.takes over end c.rewrite_rest.new.leaves.ptrs rest (λ ne. ((c.end_of.ensures.low ne).0, emptied)) c.end_of.ensures.at_most is_over refl emptied)) in
     subst (λ (p : ℕ). let new : TreeRoot = record { height = 0; ptr = p } in IsTreeRewritten read root edit.changes.now edit.cut_to new c.args.notes.now c.remove.new.self) given.is tree
 
 pub returns-clause-takes : goal.returns-clause-takes

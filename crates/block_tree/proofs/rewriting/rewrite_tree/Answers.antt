@@ -7,7 +7,7 @@ use Rattle.block_tree.proofs.rewriting.rewrite_tree.Goals as goal
 pub returns-clause-rewritten : goal.returns-clause-rewritten
 returns-clause-rewritten g c tells =
     let edit = c.args.edit.now in
-    c.in_ok-ptr-2.ensures.rewritten (blocks_in (g.D.Disk.state c.args.disk.now).contents) c.args.root.now edit.changes.now edit.cut_to c.args.notes.now (c.in_ok-made.ensures.leaves tells) (c.requires.fits tells) c.requires.changes
+    c.in_ok-ptr-2.ensures.rewritten (blocks_in (g.D.Disk.state c.args.disk.now).contents) c.args.root.now edit.changes.now edit.cut_to c.args.notes.now (c.in_ok-made.ensures.leaves tells) (c.in_ok-made.ensures.in_turn tells) (c.requires.fits tells) c.requires.changes
 
 pub returns-clause-takes : goal.returns-clause-takes
 returns-clause-takes g c = takes_then c.in_ok-made.ensures.takes c.in_ok-ptr-2.ensures.takes
