@@ -1,6 +1,6 @@
 -- A file that stands in its blocks is what is seen of it.
 use Rattle.std.proofs.Common.{◌≡◌, ℕ, zero, suc, ◌+◌, ◌-◌, ◌*◌, ◌<◌, ◌≤◌, Bool, true, false, not, cond, List, [], ◌∷◌, ◌++◌, length, take, drop, replicate, Some, None, refl, sym, ap, subst, ◌∙◌, arith, length-append, length-drop, append_assoc}
-use Rattle.std.specs.Prelude.{◌==◌, nat_le, nat_lt, option_map}
+use Rattle.std.specs.Prelude.{◌==◌, ◌&&◌, nat_le, nat_lt, option_map}
 use Rattle.std.specs.List.{list_all}
 use Rattle.std.proofs.lemmas.Bool.Decides.{nat_tests}
 use Rattle.std.proofs.lemmas.List.{append-nil, length-take, length-replicate, take_at, drop_at, take-append-drop, replicate-append-replicate}
@@ -121,6 +121,19 @@ tail_hole : (k : ℕ) → list_all (λ b. b == 0) (drop k []) ≡ true
 tail_hole zero = refl
 tail_hole (suc k) = refl
 
+zeros_front : (k n m : ℕ) → list_all (λ b. b == 0) (drop k (take n (replicate m 0))) ≡ true
+zeros_front k zero m = tail_hole k
+zeros_front k (suc n) zero = tail_hole k
+zeros_front zero (suc n) (suc m) = zeros_front zero n m
+zeros_front (suc k) (suc n) (suc m) = zeros_front k n m
+
+-- zeros behind bytes don't change whether all from one on are zeros
+pub tail_filled : (k n m : ℕ) (xs : List ℕ) → list_all (λ b. b == 0) (drop k (take n (xs ++ replicate m 0))) ≡ list_all (λ b. b == 0) (drop k (take n xs))
+tail_filled k zero m xs = refl
+tail_filled k (suc n) m [] = zeros_front k (suc n) m ∙ sym (tail_hole k)
+tail_filled zero (suc n) m (x ∷ xs) = ap (λ (t : Bool). (x == 0) && t) (tail_filled zero n m xs)
+tail_filled (suc k) (suc n) m (x ∷ xs) = tail_filled k n m xs
+
 module _ (image : List Block) (n : ℕ) (bytes : List ℕ) (height ptr : ℕ) (none : NoFaults (seen image).met) (is : inode_of (seen image).nodes n ≡ File (length bytes) height ptr)
     (stands : FileStands (blocks_in image) bytes height ptr) where
   abbrev hs : List SeenBlock
@@ -136,7 +149,7 @@ module _ (image : List Block) (n : ℕ) (bytes : List ℕ) (height ptr : ℕ) (n
       by : (t : Bool) → (block_below (blocks_in image) height ptr p == 0) ≡ t
           → take 4096 (bytes_held (held_here (blocks_in image) n p (cond t None (Some (block_below (blocks_in image) height ptr p)))) ++ replicate 4096 0) ≡ file_block bytes p
       by true e = take_whole (replicate 4096 0) 4096 (length-replicate {A = ℕ} 4096 0) ∙ sym ((stands p lt).hole e)
-      by false e = ap (λ (xs : List ℕ). take 4096 (xs ++ replicate 4096 0)) ((stands p lt).spelled e) ∙ take_at (file_block bytes p) (replicate 4096 0) 4096 (block_length bytes p)
+      by false e = (stands p lt).spelled e
 
   pieces : (place k : ℕ) → place + k ≤ blocks_of (length bytes) → bytes_from hs n place k ≡ joined bytes place k
   unfolding joined
@@ -167,17 +180,18 @@ module _ (image : List Block) (n : ℕ) (bytes : List ℕ) (height ptr : ℕ) (n
   last = blocks_of (length bytes) - 1
 
   no_tail : has_tail (seen image) (n, File (length bytes) height ptr) ≡ false
-  no_tail = ap not (ap (λ (xs : List ℕ). list_all (λ b. b == 0) (drop (length bytes - 4096 * last) xs)) (held_is last) ∙ by (block_below (blocks_in image) height ptr last == 0) refl)
+  no_tail = ap not (ap (λ (xs : List ℕ). list_all (λ b. b == 0) (drop (length bytes - 4096 * last) (take 4096 xs))) (held_is last) ∙ by (block_below (blocks_in image) height ptr last == 0) refl)
     where
       by : (t : Bool) → (block_below (blocks_in image) height ptr last == 0) ≡ t
-          → list_all (λ b. b == 0) (drop (length bytes - 4096 * last) (bytes_held (held_here (blocks_in image) n last (cond t None (Some (block_below (blocks_in image) height ptr last)))))) ≡ true
+          → list_all (λ b. b == 0) (drop (length bytes - 4096 * last) (take 4096 (bytes_held (held_here (blocks_in image) n last (cond t None (Some (block_below (blocks_in image) height ptr last))))))) ≡ true
       by true e = tail_hole (length bytes - 4096 * last)
       by false e = some_bytes (nat_lt 0 (length bytes)) refl
         where
-          some_bytes : (u : Bool) → nat_lt 0 (length bytes) ≡ u → list_all (λ b. b == 0) (drop (length bytes - 4096 * last) (blocks_in image (block_below (blocks_in image) height ptr last))) ≡ true
+          some_bytes : (u : Bool) → nat_lt 0 (length bytes) ≡ u → list_all (λ b. b == 0) (drop (length bytes - 4096 * last) (take 4096 (blocks_in image (block_below (blocks_in image) height ptr last)))) ≡ true
           some_bytes true u_is =
               let long : 0 < length bytes = grind (arith, nat_tests) in
-              ap (λ (xs : List ℕ). list_all (λ b. b == 0) (drop (length bytes - 4096 * last) xs)) ((stands last (omega (arith, long))).spelled e) ∙ tail_zeros bytes last (omega arith)
+              sym (tail_filled (length bytes - 4096 * last) 4096 4096 (blocks_in image (block_below (blocks_in image) height ptr last)))
+              ∙ ap (λ (xs : List ℕ). list_all (λ b. b == 0) (drop (length bytes - 4096 * last) xs)) ((stands last (omega (arith, long))).spelled e) ∙ tail_zeros bytes last (omega arith)
           some_bytes false u_is =
               let short : length bytes ≡ 0 = grind (arith, nat_tests) in
               let at_zero : last ≡ 0 = omega (arith, short) in

@@ -16,11 +16,11 @@ use Rattle.image_model.specs.Nodes.{has_tail}
 use Rattle.image_model.specs.Reading.{FilesStand}
 use Rattle.image_model.specs.Seen.{Seen, SeenBlock, seen}
 use Rattle.image_model.specs.Slots.{held_at, inode_of}
-use Rattle.image_model.specs.Standing.{some_block, file_block, PlaceStands}
+use Rattle.image_model.specs.Standing.{some_block, file_block, as_block, PlaceStands}
 use Rattle.image_model.specs.Stands.{node_of, bytes_from, layout_in}
 use Rattle.image_model.specs.Walk.{is_used}
 use Rattle.image_model.proofs.Area.{no_faults}
-use Rattle.image_model.proofs.FileLaws.{drop_twice}
+use Rattle.image_model.proofs.FileLaws.{drop_twice, tail_filled}
 use Rattle.image_model.proofs.HeldLaws.{tree_is_held}
 use Rattle.image_model.proofs.NumberHeld.{bytes_held, held_from, held_here, file_found}
 use Rattle.image_model.proofs.SpaceLaws.{held_length, file_length, node_there}
@@ -131,8 +131,8 @@ module _ (image : List Block) (n size height ptr : ℕ) (none : NoFaults (seen i
   not_false false e = cc
 
   -- behind the end of a place that may be the last one there are zeros
-  held_zeros : (p : ℕ) → p < blocks_of size → length (held_at hs n p) ≤ 4096 → list_all (λ b. b == 0) (drop (size - 4096 * p) (held_at hs n p)) ≡ true
-  held_zeros p lt short = by (nat_le 4096 (size - 4096 * p)) refl
+  held_zeros : (p : ℕ) → p < blocks_of size → list_all (λ b. b == 0) (drop (size - 4096 * p) (piece hs n p)) ≡ true
+  held_zeros p lt = by (nat_le 4096 (size - 4096 * p)) refl
     where
       none_left : (k : ℕ) (xs : List ℕ) → length xs ≤ k → list_all (λ b. b == 0) (drop k xs) ≡ true
       none_left zero [] le = refl
@@ -140,32 +140,26 @@ module _ (image : List Block) (n size height ptr : ℕ) (none : NoFaults (seen i
       none_left (suc k) [] le = refl
       none_left (suc k) (x ∷ xs) le = none_left k xs (omega (arith, le))
 
-      by : (t : Bool) → nat_le 4096 (size - 4096 * p) ≡ t → list_all (λ b. b == 0) (drop (size - 4096 * p) (held_at hs n p)) ≡ true
-      by true e = let le : 4096 ≤ size - 4096 * p = grind (arith, nat_tests) in none_left (size - 4096 * p) (held_at hs n p) (omega (arith, short, le))
+      by : (t : Bool) → nat_le 4096 (size - 4096 * p) ≡ t → list_all (λ b. b == 0) (drop (size - 4096 * p) (piece hs n p)) ≡ true
+      by true e = let le : 4096 ≤ size - 4096 * p = grind (arith, nat_tests) in none_left (size - 4096 * p) (piece hs n p) (omega (arith, held_length (held_at hs n p), le))
       by false e =
           let lt_size : size - 4096 * p < 4096 = grind (arith, nat_tests) in
           let last : p ≡ blocks_of size - 1 = omega (arith, lt, lt_size) in
-          subst (λ (q : ℕ). list_all (λ b. b == 0) (drop (size - 4096 * q) (held_at hs n q)) ≡ true) (sym last) (not_false _ clean)
+          tail_filled (size - 4096 * p) 4096 4096 (held_at hs n p)
+          ∙ subst (λ (q : ℕ). list_all (λ b. b == 0) (drop (size - 4096 * q) (take 4096 (held_at hs n q))) ≡ true) (sym last) (not_false _ clean)
 
-  pub place_stands : (p : ℕ) → p < blocks_of size → length (blocks_in image (block_below (blocks_in image) height ptr p)) ≡ 4096
-      → PlaceStands (blocks_in image) (block_below (blocks_in image) height ptr p) (file_block (take size (bytes_from hs n 0 (blocks_of size))) p)
-  place_stands p lt long = record { hole = λ e. hole e; spelled = λ e. spelled e }
+  pub place_stands : (p : ℕ) → p < blocks_of size → PlaceStands (blocks_in image) (block_below (blocks_in image) height ptr p) (file_block (take size (bytes_from hs n 0 (blocks_of size))) p)
+  place_stands p lt = record { hole = λ e. hole e; spelled = λ e. spelled e }
     where
-      hole : (block_below (blocks_in image) height ptr p == 0) ≡ true → file_block (take size (bytes_from hs n 0 (blocks_of size))) p ≡ replicate 4096 0
-      hole e =
-          let nothing : held_at hs n p ≡ [] = held_is p ∙ ap (λ (t : Bool). bytes_held (held_here (blocks_in image) n p (cond t None (Some (block_below (blocks_in image) height ptr p))))) e in
-          let whole : piece hs n p ≡ replicate 4096 0 = ap (λ (xs : List ℕ). take 4096 (xs ++ replicate 4096 0)) nothing ∙ take_all 4096 (replicate 4096 0) (omega (arith, length-replicate {A = ℕ} 4096 0)) in
-          let zeros : list_all (λ b. b == 0) (drop (size - 4096 * p) (piece hs n p)) ≡ true = ap (λ (xs : List ℕ). list_all (λ b. b == 0) (drop (size - 4096 * p) xs)) whole ∙ zeros_behind (size - 4096 * p) 4096 in
-          block_is hs n size p lt zeros ∙ whole
+      held_or : (t : Bool) → (block_below (blocks_in image) height ptr p == 0) ≡ t
+          → piece hs n p ≡ as_block (bytes_held (held_here (blocks_in image) n p (cond t None (Some (block_below (blocks_in image) height ptr p)))))
+      held_or t e = ap as_block (held_is p ∙ ap (λ (t : Bool). bytes_held (held_here (blocks_in image) n p (cond t None (Some (block_below (blocks_in image) height ptr p))))) e)
 
-      spelled : (block_below (blocks_in image) height ptr p == 0) ≡ false → blocks_in image (block_below (blocks_in image) height ptr p) ≡ file_block (take size (bytes_from hs n 0 (blocks_of size))) p
-      spelled e =
-          let block = blocks_in image (block_below (blocks_in image) height ptr p) in
-          let held : held_at hs n p ≡ block = held_is p ∙ ap (λ (t : Bool). bytes_held (held_here (blocks_in image) n p (cond t None (Some (block_below (blocks_in image) height ptr p))))) e in
-          let whole : piece hs n p ≡ block = ap (λ (xs : List ℕ). take 4096 (xs ++ replicate 4096 0)) held ∙ take_at block (replicate 4096 0) 4096 long in
-          let here = held_zeros p lt (omega (arith, long, ap (λ (xs : List ℕ). length xs) held)) in
-          let zeros : list_all (λ b. b == 0) (drop (size - 4096 * p) (piece hs n p)) ≡ true = ap (λ (xs : List ℕ). list_all (λ b. b == 0) (drop (size - 4096 * p) xs)) (whole ∙ sym held) ∙ here in
-          sym (block_is hs n size p lt zeros ∙ whole)
+      hole : (block_below (blocks_in image) height ptr p == 0) ≡ true → file_block (take size (bytes_from hs n 0 (blocks_of size))) p ≡ replicate 4096 0
+      hole e = block_is hs n size p lt (held_zeros p lt) ∙ held_or true e ∙ take_all 4096 (replicate 4096 0) (omega (arith, length-replicate {A = ℕ} 4096 0))
+
+      spelled : (block_below (blocks_in image) height ptr p == 0) ≡ false → as_block (blocks_in image (block_below (blocks_in image) height ptr p)) ≡ file_block (take size (bytes_from hs n 0 (blocks_of size))) p
+      spelled e = sym (block_is hs n size p lt (held_zeros p lt) ∙ held_or false e)
 
 -- the inode of a file's node, and its bytes
 inode_by : (s : Seen) (n : ℕ) (bytes : List ℕ) (x : Inode) → node_of s n x ≡ Some (record { number = n; content = tree.File bytes })
@@ -185,12 +179,11 @@ files_stand image s path n bytes standing found =
     let among : Contains (seen image).nodes (n, File size x.1 x.2) = subst (λ (i : Inode). Contains (seen image).nodes (n, i)) is (node_there (seen image).nodes n used) in
     let clean = standing.sound.tails (n, File size x.1 x.2) among in
     let long : length bytes ≡ size = ap (λ (xs : List ℕ). length xs) (sym x.4) ∙ file_length (seen image).contents n size in
-    let each : (p : ℕ) → p < blocks_of (length bytes) → length (blocks_in image (block_below (blocks_in image) x.1 x.2 p)) ≡ 4096 → PlaceStands (blocks_in image) (block_below (blocks_in image) x.1 x.2 p) (file_block bytes p) =
-    λ p lt whole. subst (λ (xs : List ℕ). PlaceStands (blocks_in image) (block_below (blocks_in image) x.1 x.2 p) (file_block xs p)) x.4 (place_stands image n size x.1 x.2 none is clean p (omega (arith, lt, long)) whole) in
+    let each : (p : ℕ) → p < blocks_of (length bytes) → PlaceStands (blocks_in image) (block_below (blocks_in image) x.1 x.2 p) (file_block bytes p) =
+    λ p lt. subst (λ (xs : List ℕ). PlaceStands (blocks_in image) (block_below (blocks_in image) x.1 x.2 p) (file_block xs p)) x.4 (place_stands image n size x.1 x.2 none is clean p (omega (arith, lt, long))) in
     record {
       height = x.1;
       ptr = x.2;
       is = is ∙ ap (λ (m : ℕ). File m x.1 x.2) (sym long);
-      place = each;
-      stands = λ whole p lt. each p lt (whole (block_below (blocks_in image) x.1 x.2 p));
+      stands = each;
     }

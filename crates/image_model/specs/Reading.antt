@@ -1,11 +1,10 @@
 -- What can be read in the blocks of an image, from what is seen of it: files, directories and inodes.
-use Rattle.std.specs.Prelude.{◌≡◌, ◌<◌, ◌↔◌, ℕ, false, List, length, take, Some}
+use Rattle.std.specs.Prelude.{◌≡◌, ◌↔◌, ℕ, false, List, length, take, Some}
 use Rattle.vol_numbers.specs.declared.block.Block.{Block}
 use Rattle.root_switch.specs.Current.{root_of_image}
-use Rattle.block_format.specs.Inode.{blocks_of}
 use Rattle.block_format.specs.declared.inode.Inode.TheVariants as inode
 use Rattle.block_format.specs.declared.slot.Slot.{Slot}
-use Rattle.block_tree.specs.Tree.{block_below, blocks_in}
+use Rattle.block_tree.specs.Tree.{blocks_in}
 use Rattle.tree_model.specs.Path.{Path}
 use Rattle.tree_model.specs.Tree.{node_at}
 use Rattle.tree_model.specs.declared.node.Content.TheVariants as content
@@ -15,21 +14,19 @@ use Rattle.image_model.specs.Nodes.{is_bad_directory}
 use Rattle.image_model.specs.Planned.{IsSpelled}
 use Rattle.image_model.specs.Seen.{seen}
 use Rattle.image_model.specs.Slots.{inode_of, slots_of}
-use Rattle.image_model.specs.Standing.{PlaceStands, FileStands, DirectoryStands, file_block}
+use Rattle.image_model.specs.Standing.{FileStands, DirectoryStands}
 use Rattle.image_model.specs.Stands.{Stands}
 
 -- each block has 4,096 bytes, as those of a disk have
 abbrev pub HasWholeBlocks : List Block → Type 0
 HasWholeBlocks image = (b : ℕ) → length (blocks_in image b) ≡ 4096
 
--- The image has this file: below its inode, each block that is whole has the bytes of its place, and a place without a block is one of zeros.
+-- The image has this file: below its inode, each block has the bytes of its place, and a place without a block is one of zeros.
 pub record HasFile (image : List Block) (n : ℕ) (bytes : List ℕ) : Type 0 where
   pub height : ℕ
   pub ptr : ℕ
   pub is : inode_of (seen image).nodes n ≡ inode.File (length bytes) height ptr
-  pub place : (place : ℕ) → place < blocks_of (length bytes) → length (blocks_in image (block_below (blocks_in image) height ptr place)) ≡ 4096
-      → PlaceStands (blocks_in image) (block_below (blocks_in image) height ptr place) (file_block bytes place)
-  pub stands : HasWholeBlocks image → FileStands (blocks_in image) bytes height ptr
+  pub stands : FileStands (blocks_in image) bytes height ptr
 
 -- The image has a directory of this width: below its inode, blocks spell its slots that are seen.
 pub record HasDirectory (image : List Block) (n width : ℕ) : Type 0 where

@@ -14,10 +14,14 @@ some_block block = if block == 0 then None else Some block
 abbrev pub file_block : List ℕ → ℕ → List ℕ
 file_block bytes place = let part : List ℕ = take 4096 (drop (4096 * place) bytes) in part ++ replicate (4096 - length part) 0
 
--- A place without a block is one of zeros, and a block has what the file has at its place.
+-- a block's first 4,096 bytes, with zeros behind them where it has fewer
+abbrev pub as_block : List ℕ → List ℕ
+as_block bytes = take 4096 (bytes ++ replicate 4096 0)
+
+-- A place without a block is one of zeros, and a block has what the file has at its place in its first 4,096 bytes.
 pub record PlaceStands (read : Blocks) (block : ℕ) (bytes : List ℕ) : Type 0 where
   pub hole : (block == 0) ≡ true → bytes ≡ replicate 4096 0
-  pub spelled : (block == 0) ≡ false → read block ≡ bytes
+  pub spelled : (block == 0) ≡ false → as_block (read block) ≡ bytes
 
 -- The blocks below a pointer are those of a file of these bytes.
 abbrev pub FileStands : Blocks → List ℕ → ℕ → ℕ → Type 0

@@ -10,13 +10,10 @@ use Rattle.block_format.specs.declared.inode.Inode.TheVariants.{File}
 use Rattle.image_model.specs.Nodes.{has_tail}
 use Rattle.image_model.specs.Seen.{Seen}
 use Rattle.image_model.specs.Slots.{held_at}
+use Rattle.image_model.specs.Standing.{as_block}
 use Rattle.image_model.specs.Stands.{bytes_from}
 use Rattle.image_model.proofs.SpaceLaws.{file_length}
 use Rattle.state_laws.proofs.Bytes.{block_of, block_byte, block_length, is_less, is_not_less}
-
--- bytes as a block, with zeros behind them
-abbrev pub as_block : List ℕ → List ℕ
-as_block bytes = take 4096 (bytes ++ replicate 4096 0)
 
 block_long : (bytes : List ℕ) → length (as_block bytes) ≡ 4096
 block_long bytes = omega (arith, length-take 4096 (bytes ++ replicate 4096 0), length-append bytes (replicate 4096 0), length-replicate {A = ℕ} 4096 0)
@@ -77,12 +74,13 @@ module _ (s : Seen) (n size height ptr : ℕ) (clean : has_tail s (n, File size 
   abbrev bytes : List ℕ
   bytes = take size (bytes_from s.contents n 0 (blocks_of size))
 
-  tail_zero : (p k : ℕ) → p ≡ blocks_of size - 1 → size - 4096 * p ≤ k → slice_index_or (held_at s.contents n p) k 0 ≡ 0
-  tail_zero p k last past =
+  tail_zero : (p k : ℕ) → p ≡ blocks_of size - 1 → size - 4096 * p ≤ k → k < 4096 → slice_index_or (held_at s.contents n p) k 0 ≡ 0
+  tail_zero p k last past below =
       let m = size - 4096 * p in
-      let all : list_all (λ b. b == 0) (drop m (held_at s.contents n p)) ≡ true = subst (λ (q : ℕ). list_all (λ b. b == 0) (drop (size - 4096 * q) (held_at s.contents n q)) ≡ true) (sym last) (none _ clean) in
+      let front = take 4096 (held_at s.contents n p) in
+      let all : list_all (λ b. b == 0) (drop m front) ≡ true = subst (λ (q : ℕ). list_all (λ b. b == 0) (drop (size - 4096 * q) (take 4096 (held_at s.contents n q))) ≡ true) (sym last) (none _ clean) in
       let at : m + (k - m) ≡ k = omega (arith, past) in
-      ap (λ (i : ℕ). slice_index_or (held_at s.contents n p) i 0) (sym at) ∙ sym (get_or-drop m (held_at s.contents n p) (k - m) 0) ∙ zeros_read (drop m (held_at s.contents n p)) all (k - m)
+      sym (get_or-take 4096 (held_at s.contents n p) k 0 below) ∙ ap (λ (i : ℕ). slice_index_or front i 0) (sym at) ∙ sym (get_or-drop m front (k - m) 0) ∙ zeros_read (drop m front) all (k - m)
     where
       none : (t : Bool) → not t ≡ false → t ≡ true
       none true e = refl
@@ -105,4 +103,4 @@ module _ (s : Seen) (n size height ptr : ℕ) (clean : has_tail s (n, File size 
           let past = is_not_less (4096 * p + k) size is in
           let last : p ≡ blocks_of size - 1 = omega (arith, past, lt, below) in
           get_or_past (take size (bytes_from s.contents n 0 (blocks_of size))) (4096 * p + k) 0 (omega (arith, past, file_length s.contents n size))
-          ∙ sym (as_byte (held_at s.contents n p) k below ∙ tail_zero p k last (omega (arith, past)))
+          ∙ sym (as_byte (held_at s.contents n p) k below ∙ tail_zero p k last (omega (arith, past)) below)

@@ -18,6 +18,7 @@ use Rattle.image_model.specs.Met.{Met, NoFaults}
 use Rattle.image_model.specs.Nodes.{has_tail, AllBelow, blocks_in_node}
 use Rattle.image_model.specs.Seen.{seen, all_held, content_held}
 use Rattle.image_model.specs.Slots.{held_at, inode_of}
+use Rattle.image_model.specs.Standing.{as_block}
 use Rattle.image_model.specs.Stands.{Stands, layout_in, node_of, bytes_from, spot_of}
 use Rattle.image_model.specs.Walk.{is_used, nodes_at}
 use Rattle.image_model.proofs.Area.{no_faults}
@@ -30,7 +31,7 @@ use Rattle.image_model.proofs.SpaceLaws.{below_at, node_there, file_length}
 use Rattle.state_laws.specs.Files.{HasPlace, zero_block}
 use Rattle.state_laws.proofs.Bytes.{block_of, past_end, is_less, is_not_less}
 use Rattle.state_laws.proofs.HeldBytes.{found_spot}
-use Rattle.image_states.proofs.FileBlocks.{as_block, block_is}
+use Rattle.image_states.proofs.FileBlocks.{block_is}
 use Rattle.image_states.proofs.Numbered.{seen_bytes, numbered}
 
 -- ---- places of one number

@@ -1,5 +1,5 @@
 -- The first node that has a fault.
-use Rattle.std.proofs.Common.{◌≡◌, ℕ, suc, ◌+◌, ◌<◌, Bool, true, false, not, cond, List, [], ◌∷◌, length, drop, get_or, Some, refl, sym, ap, ◌∙◌, arith}
+use Rattle.std.proofs.Common.{◌≡◌, ℕ, suc, ◌+◌, ◌<◌, Bool, true, false, not, cond, List, [], ◌∷◌, length, take, drop, get_or, Some, refl, sym, ap, ◌∙◌, arith}
 use Rattle.std.specs.Prelude.{Contains, ◌-◌, ◌*◌, ◌==◌}
 use Rattle.std.specs.List.{list_all}
 use Rattle.std.proofs.lemmas.List.{drop_more}
@@ -40,8 +40,8 @@ fine_there f finding nodes k d lt fine rest =
 
 -- ---- tails
 
-file_bytes : (size from : ℕ) (bytes other : List ℕ) → bytes ≡ other → not (list_all (λ b. b == 0) (drop from bytes)) ≡ not (list_all (λ b. b == 0) (drop from other))
-file_bytes size from bytes other same = ap (λ (bs : List ℕ). not (list_all (λ b. b == 0) (drop from bs))) same
+file_bytes : (size from : ℕ) (bytes other : List ℕ) → bytes ≡ other → not (list_all (λ b. b == 0) (drop from (take 4096 bytes))) ≡ not (list_all (λ b. b == 0) (drop from (take 4096 other)))
+file_bytes size from bytes other same = ap (λ (bs : List ℕ). not (list_all (λ b. b == 0) (drop from (take 4096 bs)))) same
 
 tail_same : (read : Blocks) (last : List NodeBlock) (s : Seen) → SeesEnds read last s → (node : ℕ × Inode) → Contains s.nodes node → node_has_tail read last node ≡ has_tail s node
 tail_same read last s ends (n, Unused) has = refl

@@ -1,5 +1,5 @@
 -- Tails of files, in words of private functions alone.
-use Rattle.std.specs.Prelude.{ℕ, ◌-◌, ◌*◌, ◌==◌, Bool, false, not, List, drop}
+use Rattle.std.specs.Prelude.{ℕ, ◌-◌, ◌*◌, ◌==◌, Bool, false, not, List, take, drop}
 use Rattle.std.specs.List.{list_all}
 use Rattle.block_format.specs.Inode.{blocks_of}
 use Rattle.block_format.specs.declared.inode.Inode.{Inode}
@@ -9,9 +9,9 @@ use Rattle.image_model.specs.Slots.{held_at}
 use Rattle.name_check.specs.Blocks.{blocks_held}
 use Rattle.name_check.specs.declared.blocks.NodeBlock.{NodeBlock}
 
--- whether a file's last block, of those in a list, has a byte past the size that isn't 0
+-- whether a file's last block, of those in a list, has a byte past the size that isn't 0 among its first 4,096
 abbrev pub has_tail_in : Blocks → List NodeBlock → ℕ → ℕ → Bool
-has_tail_in read last n size = not (list_all (λ b. b == 0) (drop (size - 4096 * (blocks_of size - 1)) (held_at (blocks_held read last) n (blocks_of size - 1))))
+has_tail_in read last n size = not (list_all (λ b. b == 0) (drop (size - 4096 * (blocks_of size - 1)) (take 4096 (held_at (blocks_held read last) n (blocks_of size - 1)))))
 
 -- the same of a node: only a file may have one
 abbrev pub node_has_tail : Blocks → List NodeBlock → ℕ × Inode → Bool

@@ -1,5 +1,5 @@
 //! Bytes behind the size of a file.
-ghost use Rattle.std.specs.Prelude.{◌≡◌, ◌<◌, ◌≤◌, length, ◌==◌, ◌-◌, ◌*◌, ℕ, Some, not, map, drop, IfOk, IsTrue, option_map};
+ghost use Rattle.std.specs.Prelude.{◌≡◌, ◌<◌, ◌≤◌, length, ◌==◌, ◌-◌, ◌*◌, ℕ, Some, not, map, take, drop, IfOk, IsTrue, option_map};
 ghost use Rattle.std.specs.List.{list_all};
 ghost use Rattle.vol_numbers.specs.Cause.{HasCause};
 ghost use Rattle.disk_model.specs.Past.{Adds};
@@ -87,7 +87,7 @@ fn has_tail<D: Disk>(
 fn has_bytes<D: Disk>(disk: &mut D, block: BlockNo, from: usize) -> Result<bool, DiskFault>
     requires block { block < (D.fixed disk.old).size }
     requires from { from ≤ 4096 }
-    ensures has { IfOk result (λ has. IsTrue D.tells → has ≡ not (list_all (λ b. b == 0) (drop from (blocks_in (D.state disk.old).contents block)))) }
+    ensures has { IfOk result (λ has. IsTrue D.tells → has ≡ not (list_all (λ b. b == 0) (drop from (take 4096 (blocks_in (D.state disk.old).contents block))))) }
     ensures same { IsTrue D.tells → D.state disk.new ≡ D.state disk.old }
     ensures moments { IsTrue D.tells → Adds (D.past disk.old) (D.past disk.new) (λ s. s ≡ D.state disk.old) }
     ensures fixed { D.fixed disk.new ≡ D.fixed disk.old }
