@@ -21,3 +21,4 @@ mod AcceptedLaws
 mod NewLaws
 mod ListLaws
 mod OrderLaws
+mod PlanLaws

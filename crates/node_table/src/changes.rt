@@ -103,7 +103,7 @@ impl NodeTable {
     }
 
     /// How many bytes a file has.
-    fn file_size(&self, number: InoNo) -> u64
+    pub(crate) fn file_size(&self, number: InoNo) -> u64
         requires { (size : ℕ) × (held self.now number ≡ Some (File size)) }
         ensures { held self.now number ≡ Some (File result) }
     {
@@ -169,7 +169,7 @@ impl NodeTable {
     }
 }
 
-fn last_name(path: &Path) -> &Name
+pub(crate) fn last_name(path: &Path) -> &Name
     requires { is_root path.now ≡ false }
     ensures { path.now ≡ parent_of path.now ++ result.now ∷ [] }
 {

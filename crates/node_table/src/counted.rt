@@ -99,6 +99,20 @@ impl CountedDirectory {
         Ok(slot)
     }
 
+    /// The slot of the entry of a name.
+    pub(crate) fn slot_of(&self, name: &Name) -> Option<u32>
+        ensures { result ≡ slot_of self.now name.now }
+    {
+        self.directory.slot_of(name)
+    }
+
+    /// The least unused slot, which is the width where each slot is used.
+    pub(crate) fn first_unused(&self) -> u32
+        ensures { result ≡ first_unused self.now }
+    {
+        self.directory.first_unused()
+    }
+
     /// Makes the slot of a name unused, and says which that was.
     #[tactic(auto, using(crate::proofs::SlotCounts::count_without))]
     pub(crate) fn remove(&mut self, name: &Name) -> Option<u32>

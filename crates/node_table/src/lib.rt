@@ -8,6 +8,7 @@ mod counted;
 mod held;
 mod listing;
 mod nodes;
+mod planning;
 mod table;
 mod walks;
 

@@ -1,0 +1,34 @@
+use Rattle.std.proofs.Common.{sym, ap, subst, ◌∙◌}
+use Rattle.tree_model.specs.Path.{parent_of}
+use Rattle.tree_model.proofs.Fronts.{last_name}
+use Rattle.node_table.specs.Held.{held, slots_of}
+use Rattle.node_table.specs.Walks.{look}
+use Rattle.node_table.proofs.AcceptedLaws.{remove_goes, remove_named, remove_above, remove_ready}
+use Rattle.node_table.proofs.MoveLaws.{slot_there}
+use Rattle.node_table.proofs.PlanLaws.{removed_said}
+use Rattle.node_table.proofs.RefusalLaws.{AreDirectories}
+use Rattle.node_table.proofs.table.NodeTable.plan_remove.Goals as goal
+
+pub unreachable-requires : goal.unreachable-requires
+unreachable-requires c = remove_goes c.args.self.now c.args.path.now c.requires (subst AreDirectories c.self.view_is c.self.invariant.directories) c.in_default.field-0 (sym c.may_remove.ensures ∙ c.in_default.is)
+
+pub unreachable-requires-in_default-look : goal.unreachable-requires-in_default-look
+unreachable-requires-in_default-look c =
+    let last = last_name c.args.path.now (remove_named c.args.self.now c.args.path.now c.requires (subst AreDirectories c.self.view_is c.self.invariant.directories)) in
+    remove_above c.args.self.now c.args.path.now c.requires (subst AreDirectories c.self.view_is c.self.invariant.directories) last.0 last.1 c.in_default-look.field-0
+    (ap (look c.args.self.now) (sym (c.parent_names.ensures ∙ ap parent_of c.names.ensures.is)) ∙ sym c.look.ensures ∙ c.in_default-look.is)
+
+pub last_name-requires : goal.last_name-requires
+last_name-requires c = remove_named c.args.self.now c.args.path.now c.requires (subst AreDirectories c.self.view_is c.self.invariant.directories)
+
+pub slot_in-slot-requires-clause-directory : goal.slot_in-slot-requires-clause-directory
+slot_in-slot-requires-clause-directory c = (remove_ready c.args.self.now c.args.path.now c.requires (subst AreDirectories c.self.view_is c.self.invariant.directories) c.in-Ok.number (sym c.may_remove.ensures ∙ c.in-Ok.is) c.in-Ok-look.above (ap (look c.args.self.now) (sym (c.parent_names.ensures ∙ ap parent_of c.names.ensures.is)) ∙ sym c.look.ensures ∙ c.in-Ok-look.is) c.last_name.result.now c.last_name.ensures).directory
+
+pub slot_in-slot-requires-clause-there : goal.slot_in-slot-requires-clause-there
+slot_in-slot-requires-clause-there c =
+    slot_there (slots_of (held c.args.self.now c.in-Ok-look.above.number)) c.last_name.result.now c.in-Ok.number (remove_ready c.args.self.now c.args.path.now c.requires (subst AreDirectories c.self.view_is c.self.invariant.directories) c.in-Ok.number (sym c.may_remove.ensures ∙ c.in-Ok.is) c.in-Ok-look.above (ap (look c.args.self.now) (sym (c.parent_names.ensures ∙ ap parent_of c.names.ensures.is)) ∙ sym c.look.ensures ∙ c.in-Ok-look.is) c.last_name.result.now c.last_name.ensures).number_is
+
+pub returns : goal.returns
+returns c =
+    let ready = remove_ready c.args.self.now c.args.path.now c.requires (subst AreDirectories c.self.view_is c.self.invariant.directories) c.in-Ok.number (sym c.may_remove.ensures ∙ c.in-Ok.is) c.in-Ok-look.above (ap (look c.args.self.now) (sym (c.parent_names.ensures ∙ ap parent_of c.names.ensures.is)) ∙ sym c.look.ensures ∙ c.in-Ok-look.is) c.last_name.result.now c.last_name.ensures in
+    removed_said c.args.self.now c.args.path.now c.in-Ok-look.above.number c.slot_in-slot.result c.in-Ok.number c.last_name.result.now c.last_name.ensures ready.leads c.slot_in-slot.ensures ready.number_is
