@@ -16,7 +16,7 @@ use crate::blocks::{NodeBlock, block_at};
 use crate::reading::read_block;
 use block_format::Inode;
 use disk_model::{Disk, DiskFault};
-use vol_numbers::{BlockNo, InoNo};
+use vol_numbers::{Block, BlockNo, InoNo};
 
 /// The first of the nodes that is a file with a byte past its size that isn't 0. Each last block is read once.
 pub fn tails<D: Disk>(
@@ -94,7 +94,15 @@ fn has_bytes<D: Disk>(disk: &mut D, block: BlockNo, from: usize) -> Result<bool,
     ensures cause { HasCause (D.faults disk.old) (D.faults disk.new) result }
 {
     let block = read_block(disk, block)?;
-    Ok(!are_zeros(&block.bytes, from))
+    Ok(!is_zero_from(&block, from))
+}
+
+/// Whether all bytes of a block from one on are 0.
+fn is_zero_from(block: &Block, from: usize) -> bool
+    requires { from ≤ 4096 }
+    ensures { result ≡ list_all (λ b. b == 0) (drop from (take 4096 block.now.bytes)) }
+{
+    are_zeros(&block.bytes, from)
 }
 
 /// Whether all bytes from one on are 0.

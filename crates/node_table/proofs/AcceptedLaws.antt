@@ -18,7 +18,7 @@ use Rattle.node_table.specs.Accepted.{IsAccepted}
 use Rattle.node_table.specs.Changes.{HoldsSlots, LeadsTo}
 use Rattle.node_table.specs.Checks.{may_make, may_size, may_remove, may_rename}
 use Rattle.node_table.specs.Found.{found_of}
-use Rattle.node_table.specs.Held.{Nodes, HoldsNodes, held, info, info_of, slots_of}
+use Rattle.node_table.specs.Held.{AreDirectories, Nodes, HoldsNodes, held, info, info_of, slots_of}
 use Rattle.node_table.specs.Held as table
 use Rattle.node_table.specs.declared.held.NodeInfo.TheVariants as infos
 use Rattle.node_table.specs.Numbers.{IsNext, AllUsed}
@@ -29,7 +29,6 @@ use Rattle.node_table.specs.declared.held.HeldNode.{HeldNode}
 use Rattle.node_table.specs.declared.held.HeldNode.TheVariants.{File, Directory}
 use Rattle.node_table.proofs.NumberLaws.{next_is}
 use Rattle.node_table.proofs.PieceLaws.{make_pieces, write_pieces, truncate_pieces, remove_pieces, rename_pieces, SizePieces}
-use Rattle.node_table.proofs.RefusalLaws.{AreDirectories}
 use Rattle.node_table.proofs.ReadyLaws.{directory_held, leads_to, make_place, make_absent, make_room, remove_place, is_in, rename_place, rename_absent, rename_room}
 use Rattle.node_table.proofs.WalkLaws.{look_there}
 

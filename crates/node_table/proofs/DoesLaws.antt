@@ -10,13 +10,12 @@ use Rattle.tree_model.specs.declared.command.Command.TheVariants.{Mkdir, Create,
 use Rattle.tree_model.specs.declared.node.Content.TheVariants as contents
 use Rattle.tree_model.proofs.ByteLaws.{length_resized}
 use Rattle.node_table.specs.Changes.{Does, IsMade, IsSized, IsRemoved, IsRenamed}
-use Rattle.node_table.specs.Held.{Nodes, HoldsNodes}
+use Rattle.node_table.specs.Held.{AreDirectories, Nodes, HoldsNodes}
 use Rattle.node_table.specs.declared.change.Change.{Change}
 use Rattle.node_table.specs.declared.change.Change.TheVariants.{Made, Sized, Removed, Renamed}
 use Rattle.node_table.specs.declared.held.HeldNode.TheVariants.{File, Directory}
 use Rattle.node_table.proofs.MakeLaws.{makes_hold}
 use Rattle.node_table.proofs.PieceLaws.{step_is, make_pieces, write_pieces, truncate_pieces, remove_pieces, rename_pieces}
-use Rattle.node_table.proofs.RefusalLaws.{AreDirectories}
 use Rattle.node_table.proofs.RemoveLaws.{removes_hold}
 use Rattle.node_table.proofs.RenameTables.{renames_hold}
 use Rattle.node_table.proofs.SizeLaws.{sizes_hold}

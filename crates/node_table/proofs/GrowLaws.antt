@@ -15,12 +15,11 @@ use Rattle.tree_model.specs.declared.node.Content.{Content}
 use Rattle.tree_model.specs.declared.node.Content.TheVariants as contents
 use Rattle.tree_model.proofs.StepWidths.{keeps_tree, widths_are_greatest, new_directories_are_empty}
 use Rattle.node_table.specs.Counts.{count}
-use Rattle.node_table.specs.Held.{Nodes, HoldsNodes, held, info, slots_of}
+use Rattle.node_table.specs.Held.{AreDirectories, Nodes, HoldsNodes, held, info, slots_of}
 use Rattle.node_table.specs.declared.held.HeldNode.{HeldNode}
 use Rattle.node_table.specs.declared.held.HeldNode.TheVariants.{File, Directory}
 use Rattle.node_table.specs.declared.held.NodeInfo.TheVariants as infos
 use Rattle.node_table.proofs.CountLaws.{count_is}
-use Rattle.node_table.proofs.RefusalLaws.{AreDirectories}
 use Rattle.node_table.proofs.ShapeLaws.{HoldsShape, kind, number_of}
 use Rattle.node_table.proofs.WalkLaws.{node_of}
 use Rattle.node_table.proofs.SlotCounts.{count_within, count_with, length_with, count_without}

@@ -12,12 +12,12 @@ use Rattle.tree_model.specs.declared.refusal.Refusal.{Refusal}
 use Rattle.tree_model.specs.declared.reply.Reply.TheVariants.{Stat}
 use Rattle.tree_model.proofs.Accepted.{walked}
 use Rattle.node_table.specs.Found.{found, found_of}
-use Rattle.node_table.specs.Held.{Nodes, HoldsNodes, held, info_of, slots_of}
+use Rattle.node_table.specs.Held.{AreDirectories, Nodes, HoldsNodes, held, info_of, slots_of}
 use Rattle.node_table.specs.Listing.{kind_in, size_in, stat_of}
 use Rattle.node_table.specs.Walks.{look}
 use Rattle.node_table.specs.declared.held.FoundNode.{FoundNode}
 use Rattle.node_table.proofs.ReadyLaws.{directory_held}
-use Rattle.node_table.proofs.RefusalLaws.{AreDirectories, count_same}
+use Rattle.node_table.proofs.RefusalLaws.{count_same}
 use Rattle.node_table.proofs.WalkLaws.{look_is}
 
 pub same_kinds : (c : Content) → kind_in (info_of c) ≡ kind_of c

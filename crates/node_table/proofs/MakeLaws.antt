@@ -21,7 +21,7 @@ use Rattle.tree_model.proofs.Shapes.{with_shape}
 use Rattle.tree_model.proofs.StepShapes.{put_shape, widened_shape}
 use Rattle.node_table.specs.Changes.{LeadsTo, Makes}
 use Rattle.node_table.specs.Found.{found_of}
-use Rattle.node_table.specs.Held.{Nodes, HoldsNodes, held, info, info_of, slots_of, is_directory}
+use Rattle.node_table.specs.Held.{AreDirectories, Nodes, HoldsNodes, held, info, info_of, slots_of, is_directory}
 use Rattle.node_table.specs.declared.held.FoundNode.{FoundNode}
 use Rattle.node_table.specs.declared.held.HeldNode.{HeldNode}
 use Rattle.node_table.specs.declared.held.HeldNode.TheVariants.{File, Directory}
@@ -30,7 +30,6 @@ use Rattle.node_table.proofs.GrowLaws.{Grown, grown_put, grown_kept, width_kept,
 use Rattle.node_table.proofs.KeptLaws.{set_same, set_other}
 use Rattle.node_table.proofs.NumberLaws.{next_is, used_is, held_there}
 use Rattle.node_table.proofs.PieceLaws.{MakePieces, made}
-use Rattle.node_table.proofs.RefusalLaws.{AreDirectories}
 use Rattle.node_table.proofs.ShapeLaws.{HoldsShape, NodesMade, kind, number_of, holds_shape, holds_nodes, same_holds, made_holds, not_itself}
 use Rattle.node_table.proofs.SlotNumbers.{number_put}
 use Rattle.node_table.proofs.WalkLaws.{look_there, same_kind}

@@ -34,7 +34,7 @@ use Rattle.tree_model.proofs.Fronts.{strip_is}
 use Rattle.tree_model.proofs.Paths.{same_name}
 use Rattle.node_table.proofs.CountLaws.{names_in, name_sym, slot_member, slots_distinct, rest_once, entry_member}
 use Rattle.node_table.proofs.NumberLaws.{in_whole, at_head}
-use Rattle.node_table.specs.Held.{Nodes, HoldsNodes, held, info, info_of, slots_of}
+use Rattle.node_table.specs.Held.{AreDirectories, Nodes, HoldsNodes, held, info, info_of, slots_of}
 use Rattle.node_table.specs.declared.held.HeldNode.{HeldNode}
 use Rattle.node_table.proofs.ListLaws.{same_kinds}
 use Rattle.node_table.specs.Found.{found, found_of}
@@ -42,7 +42,6 @@ use Rattle.node_table.specs.Walks.{look}
 use Rattle.node_table.specs.declared.held.FoundNode.{FoundNode}
 use Rattle.node_table.specs.declared.held.HeldNode.TheVariants.{File, Directory}
 use Rattle.node_table.proofs.ReadyLaws.{some_shape}
-use Rattle.node_table.proofs.RefusalLaws.{AreDirectories}
 use Rattle.node_table.proofs.WalkLaws.{look_is, look_there}
 use Rattle.node_table.proofs.ShapeLaws.{bytes_itself, same_bytes, none_below}
 use Rattle.node_table.proofs.SlotNumbers.{none_later}

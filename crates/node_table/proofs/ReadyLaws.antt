@@ -20,11 +20,11 @@ use Rattle.tree_model.proofs.StepWidths.{keeps_tree}
 use Rattle.node_table.specs.Changes.{HoldsSlots, LeadsTo}
 use Rattle.node_table.specs.Checks.{new_place, may_make, may_remove, may_rename, is_full}
 use Rattle.node_table.specs.Found.{found_of}
-use Rattle.node_table.specs.Held.{Nodes, HoldsNodes, held, info_of, slots_of, is_directory}
+use Rattle.node_table.specs.Held.{AreDirectories, Nodes, HoldsNodes, held, info_of, slots_of, is_directory}
 use Rattle.node_table.proofs.CountLaws.{more_entries}
 use Rattle.node_table.proofs.GrowLaws.{dir_of}
 use Rattle.node_table.proofs.PieceLaws.{MakePieces, RemovePieces, RenamePieces, step_is}
-use Rattle.node_table.proofs.RefusalLaws.{AreDirectories, count_same, full_is}
+use Rattle.node_table.proofs.RefusalLaws.{count_same, full_is}
 use Rattle.node_table.proofs.ShapeLaws.{holds_shape, number_of, child_of, one_name}
 use Rattle.node_table.proofs.RenameShapes.{split_last}
 use Rattle.node_table.proofs.SlotCounts.{first_within}

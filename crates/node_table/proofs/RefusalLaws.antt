@@ -23,7 +23,7 @@ use Rattle.node_table.specs.Numbers.{IsNext, AllUsed}
 use Rattle.node_table.specs.Checks.{new_place, may_make, file_at, may_size, is_full, may_remove, may_rename, may_list}
 use Rattle.node_table.specs.Counts.{count}
 use Rattle.node_table.specs.Found.{found, found_of}
-use Rattle.node_table.specs.Held.{Nodes, HoldsNodes, held, info, info_of, slots_of, is_directory}
+use Rattle.node_table.specs.Held.{Nodes, HoldsNodes, AreDirectories, held, info, info_of, slots_of, is_directory}
 use Rattle.node_table.specs.Walks.{look}
 use Rattle.node_table.specs.declared.checks.RenamePlan.{RenamePlan}
 use Rattle.node_table.specs.declared.held.FoundNode.{FoundNode}
@@ -35,9 +35,6 @@ use Rattle.node_table.proofs.WalkLaws.{look_is, there_is, entry_of}
 -- what a tree does at the place of a new path
 abbrev pub place : {Y : Type 0} → Tree → Path → Result Y Refusal → Result Y Refusal
 place tree path next = walk tree (parent_of path) >>= (λ parent. refuse_if (not (trees.is_directory parent)) NotADirectory >>= (λ _. refuse_if (is_some (node_at tree path)) Exists >>= (λ _. next)))
-
-abbrev pub AreDirectories : Nodes → Type 0
-AreDirectories nodes = (number : ℕ) (slots : List Slot) → held nodes number ≡ Some (Directory slots) → IsDirectory slots
 
 some_number : (o : Option Node) → is_some (option_map (λ (n : Node). n.number) o) ≡ is_some o
 some_number None = refl

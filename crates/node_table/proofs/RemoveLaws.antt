@@ -15,13 +15,12 @@ use Rattle.tree_model.proofs.Fronts.{tie, tie_itself}
 use Rattle.tree_model.proofs.Lookups.{without_at}
 use Rattle.tree_model.proofs.Shapes.{without_shape}
 use Rattle.node_table.specs.Changes.{Removes}
-use Rattle.node_table.specs.Held.{Nodes, HoldsNodes, held, info, info_of, slots_of}
+use Rattle.node_table.specs.Held.{AreDirectories, Nodes, HoldsNodes, held, info, info_of, slots_of}
 use Rattle.node_table.specs.declared.held.HeldNode.TheVariants.{Directory}
 use Rattle.node_table.proofs.GrowLaws.{Grown, grown_taken, grown_kept, width_kept}
 use Rattle.node_table.proofs.KeptLaws.{set_same, set_other}
 use Rattle.node_table.proofs.MakeLaws.{leads_is}
 use Rattle.node_table.proofs.PieceLaws.{RemovePieces}
-use Rattle.node_table.proofs.RefusalLaws.{AreDirectories}
 use Rattle.node_table.proofs.ShapeLaws.{HoldsShape, NodesRemoved, kind, number_of, holds_shape, holds_nodes, same_holds, removed_holds, child_of, not_itself}
 use Rattle.node_table.proofs.SlotNumbers.{number_taken}
 use Rattle.node_table.proofs.WalkLaws.{node_of}

@@ -18,13 +18,12 @@ use Rattle.tree_model.proofs.Lookups.{IsClear, moved_at, widened_other}
 use Rattle.tree_model.proofs.Renames.{origin, none_left, at_other}
 use Rattle.tree_model.proofs.StepShapes.{is_clear, moved_shape, widened_shape}
 use Rattle.node_table.specs.Changes.{Renames}
-use Rattle.node_table.specs.Held.{Nodes, HoldsNodes, held, info, info_of, slots_of}
+use Rattle.node_table.specs.Held.{AreDirectories, Nodes, HoldsNodes, held, info, info_of, slots_of}
 use Rattle.node_table.specs.declared.held.HeldNode.TheVariants.{Directory}
 use Rattle.node_table.proofs.GrowLaws.{Grown, grown_put, grown_taken, grown_moved, grown_kept, width_kept}
 use Rattle.node_table.proofs.KeptLaws.{set_same, set_other}
 use Rattle.node_table.proofs.MakeLaws.{leads_is, file_clash}
 use Rattle.node_table.proofs.PieceLaws.{RenamePieces}
-use Rattle.node_table.proofs.RefusalLaws.{AreDirectories}
 use Rattle.node_table.proofs.RenameShapes.{NodesRenamed, renamed_holds}
 use Rattle.node_table.proofs.ShapeLaws.{HoldsShape, kind, number_of, holds_shape, holds_nodes, same_holds, child_of, bytes_itself, same_bytes}
 use Rattle.node_table.proofs.SlotNumbers.{number_put, number_taken}

@@ -2,7 +2,7 @@
 use Rattle.std.specs.Prelude.{◌≡◌, ℕ, Bool, true, false, List, [], ◌∷◌, ◌++◌, length, Option, Some, None, is_some, slice_index_or}
 use Rattle.std.specs.Option.{option_map}
 use Rattle.block_format.specs.declared.slot.Slot.{Slot}
-use Rattle.dir_slots.specs.Slots.{number_in}
+use Rattle.dir_slots.specs.Slots.{number_in, IsDirectory}
 use Rattle.tree_model.specs.Path.{Path}
 use Rattle.tree_model.specs.Tree.{Tree, node_at}
 use Rattle.tree_model.specs.declared.node.Node.{Node}
@@ -41,6 +41,10 @@ abbrev pub slots_of : Option HeldNode → List Slot
 slots_of None = []
 slots_of (Some (File size)) = []
 slots_of (Some (Directory slots)) = slots
+
+-- each directory that is held is one: its slots fit, and no name stands twice
+abbrev pub AreDirectories : Nodes → Type 0
+AreDirectories nodes = (number : ℕ) (slots : List Slot) → held nodes number ≡ Some (Directory slots) → IsDirectory slots
 
 -- Each node of the tree is held under its number, a directory's slots have the numbers of the nodes one name further, and no other number is used.
 pub record HoldsNodes (nodes : Nodes) (tree : Tree) : Type 0 where

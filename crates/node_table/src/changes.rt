@@ -7,7 +7,7 @@ ghost use Rattle.tree_model.specs.Tree.{Tree};
 ghost use Rattle.tree_model.specs.declared.command.Command.TheVariants.{Create, Write, Truncate, Remove, Rename};
 ghost use Rattle.node_table.specs.Accepted.{IsAccepted};
 ghost use Rattle.node_table.specs.Changes.{Does, IsMade, IsSized, IsRemoved, IsRenamed};
-ghost use Rattle.node_table.specs.Held.{HoldsNodes, held};
+ghost use Rattle.node_table.specs.Held.{AreDirectories, HoldsNodes, held};
 ghost use Rattle.node_table.specs.Kept.{Fits};
 ghost use Rattle.node_table.specs.declared.held.HeldNode.TheVariants.{File};
 
@@ -27,6 +27,7 @@ impl NodeTable {
         requires accepted { IsAccepted self.old command.now }
         ensures holds { IfOk result (λ _. (tree : Tree) → IsTree tree → HoldsNodes self.old tree → refusal_of tree command.now ≡ None → HoldsNodes self.new (step tree command.now).1) }
         ensures done { IfOk result (λ change. Does command.now change self.old self.new) }
+        ensures directories { IfOk result (λ _. AreDirectories self.new) }
         ensures unchanged { OnErr result (self.new ≡ self.old) }
     {
         // What is kept of the nodes holds before and after.

@@ -1,6 +1,6 @@
 use Rattle.std.proofs.Common.{subst}
+use Rattle.node_table.specs.Held.{AreDirectories}
 use Rattle.node_table.proofs.DoesLaws.{does_hold}
-use Rattle.node_table.proofs.RefusalLaws.{AreDirectories}
 use Rattle.node_table.proofs.table.NodeTable.change.Goals as goal
 
 pub returns-clause-holds : goal.returns-clause-holds

@@ -1,7 +1,7 @@
 use Rattle.std.proofs.Common.{ap, sym, subst, ◌∙◌}
+use Rattle.node_table.specs.Held.{AreDirectories}
 use Rattle.node_table.specs.Walks.{look}
 use Rattle.node_table.proofs.OrderLaws.{none_listed, all_listed, ok_then}
-use Rattle.node_table.proofs.RefusalLaws.{AreDirectories}
 use Rattle.node_table.proofs.table.NodeTable.entries.Goals as goal
 
 pub returns-in-Err : goal.returns-in-Err

@@ -1,6 +1,6 @@
 use Rattle.std.proofs.Common.{sym, subst, ◌∙◌}
+use Rattle.node_table.specs.Held.{AreDirectories}
 use Rattle.node_table.proofs.AcceptedLaws.{make_goes, number_goes, make_ready}
-use Rattle.node_table.proofs.RefusalLaws.{AreDirectories}
 use Rattle.node_table.proofs.table.NodeTable.make.Goals as goal
 
 pub unreachable-requires : goal.unreachable-requires

@@ -3,12 +3,11 @@ use Rattle.std.specs.Prelude.{nat_eq, min, if◌then◌else◌}
 use Rattle.dir_slots.specs.Slots.{first_unused}
 use Rattle.tree_model.specs.Path.{parent_of}
 use Rattle.tree_model.proofs.Fronts.{last_name}
-use Rattle.node_table.specs.Held.{held, slots_of}
+use Rattle.node_table.specs.Held.{AreDirectories, held, slots_of}
 use Rattle.node_table.specs.Walks.{look}
 use Rattle.node_table.proofs.AcceptedLaws.{rename_goes, from_named, to_named, rename_above, rename_ready}
 use Rattle.node_table.proofs.MoveLaws.{slot_there}
 use Rattle.node_table.proofs.PlanLaws.{renamed_said, comes_back, comes_over}
-use Rattle.node_table.proofs.RefusalLaws.{AreDirectories}
 use Rattle.node_table.proofs.table.NodeTable.plan_rename.Goals as goal
 
 pub unreachable-requires : goal.unreachable-requires

@@ -1,9 +1,10 @@
 use Rattle.std.proofs.Common.{ap, sym, subst, ◌∙◌, length, ◌+◌}
 use Rattle.std.specs.Result.{result_err}
 use Rattle.tree_model.specs.Step.{refusal_of}
+use Rattle.node_table.specs.Held.{AreDirectories}
 use Rattle.node_table.specs.Checks.{may_size}
 use Rattle.node_table.specs.Walks.{look}
-use Rattle.node_table.proofs.RefusalLaws.{AreDirectories, write_same, truncate_same, remove_same, rename_same, read_same, layout_same, listed_same, stats_same}
+use Rattle.node_table.proofs.RefusalLaws.{write_same, truncate_same, remove_same, rename_same, read_same, layout_same, listed_same, stats_same}
 use Rattle.node_table.proofs.table.NodeTable.refusal.Goals as goal
 
 pub returns-in-Write : goal.returns-in-Write

@@ -1,11 +1,10 @@
 use Rattle.std.proofs.Common.{sym, ap, subst, ◌∙◌}
 use Rattle.tree_model.specs.Path.{parent_of}
 use Rattle.tree_model.proofs.Fronts.{last_name}
-use Rattle.node_table.specs.Held.{held, slots_of}
+use Rattle.node_table.specs.Held.{AreDirectories, held, slots_of}
 use Rattle.node_table.specs.Walks.{look}
 use Rattle.node_table.proofs.AcceptedLaws.{remove_goes, remove_named, remove_above, remove_ready}
 use Rattle.node_table.proofs.MoveLaws.{slot_there}
-use Rattle.node_table.proofs.RefusalLaws.{AreDirectories}
 use Rattle.node_table.proofs.table.NodeTable.remove.Goals as goal
 
 pub unreachable-requires : goal.unreachable-requires

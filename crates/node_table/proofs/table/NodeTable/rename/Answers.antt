@@ -1,9 +1,9 @@
 use Rattle.std.proofs.Common.{sym, ap, subst, ◌∙◌}
 use Rattle.tree_model.specs.Path.{parent_of}
 use Rattle.tree_model.proofs.Fronts.{last_name}
+use Rattle.node_table.specs.Held.{AreDirectories}
 use Rattle.node_table.specs.Walks.{look}
 use Rattle.node_table.proofs.AcceptedLaws.{rename_goes, from_named, to_named, rename_above, rename_ready}
-use Rattle.node_table.proofs.RefusalLaws.{AreDirectories}
 use Rattle.node_table.proofs.table.NodeTable.rename.Goals as goal
 
 pub unreachable-requires : goal.unreachable-requires

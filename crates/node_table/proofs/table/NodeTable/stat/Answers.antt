@@ -1,8 +1,8 @@
 use Rattle.std.proofs.Common.{ap, sym, subst, ◌∙◌, Ok}
 use Rattle.tree_model.specs.declared.reply.Reply.TheVariants.{Stat}
+use Rattle.node_table.specs.Held.{AreDirectories}
 use Rattle.node_table.specs.Walks.{look}
 use Rattle.node_table.proofs.ListLaws.{stat_there, stat_refused}
-use Rattle.node_table.proofs.RefusalLaws.{AreDirectories}
 use Rattle.node_table.proofs.table.NodeTable.stat.Goals as goal
 
 pub returns-in-Err : goal.returns-in-Err
