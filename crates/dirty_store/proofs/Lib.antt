@@ -5,6 +5,7 @@ pub mod Bounds
 pub mod BackLaws
 pub mod KeptLaws
 pub mod NodeLaws
+pub mod NumberLaws
 pub mod BoxLaws
 pub mod LastLaws
 pub mod RunLaws

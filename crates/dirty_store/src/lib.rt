@@ -7,6 +7,7 @@ mod effect;
 mod entries;
 mod laws;
 mod node_change;
+mod numbers;
 mod rooms;
 mod runs;
 mod staged;
@@ -19,5 +20,6 @@ pub use laws::{
     staged_nodes_are, staged_slots_are,
 };
 pub use node_change::NodeChange;
+pub use numbers::{NumberList, PlaceList};
 pub use staged::Staged;
 pub use store::DirtyStore;

@@ -6,12 +6,14 @@ ghost use Rattle.volume_model.specs.Places.{spot_cmp};
 ghost use Rattle.dirty_store.specs.Overlay.{IsEffect, IsOverlay, clean, staged, node_of, least_cut, dirty_places, width_of};
 ghost use Rattle.dirty_store.specs.Undo.{IsUndoable, KeepsRoom, undone};
 ghost use Rattle.dirty_store.specs.Runs.{AreRunsOf};
+ghost use Rattle.dirty_store.specs.Numbers.{AreOnce, staged_numbers, staged_pages};
 
 use crate::boxes::{Boxed, boxed_lists};
 use crate::cuts::bounds_of;
 use crate::effect::Effect;
 use crate::entries::get;
 use crate::node_change::{Nodes, least_cut, node_back, node_of, stage_node};
+use crate::numbers::{NumberList, PlaceList, pages_of, push_nodes, push_numbers, sort_once};
 use crate::rooms::{rooms_for, whole};
 use crate::runs::runs_of;
 use crate::staged::Staged;
@@ -144,6 +146,26 @@ impl DirtyStore {
     {
         let bounds = bounds_of(&self.blocks, number, 0);
         runs_of(alloc, &self.blocks[bounds])
+    }
+
+    /// The numbers of which something is staged, a dirty place, a node or a slot: in ascending order, each once.
+    pub fn numbers(&self, alloc: Global) -> Result<NumberList, AllocError>
+        ensures { IfOk result (AreOnce (staged_numbers self.now.overlay)) }
+    {
+        let mut numbers = Vec::new(alloc);
+        push_numbers(&mut numbers, &self.blocks)?;
+        push_nodes(&mut numbers, &self.nodes)?;
+        push_numbers(&mut numbers, &self.slots)?;
+        sort_once(&mut numbers);
+        Ok(NumberList::from_vec(numbers))
+    }
+
+    /// The pages of a directory in which a slot is staged: in ascending order, each once.
+    pub fn pages(&self, alloc: Global, directory: InoNo) -> Result<PlaceList, AllocError>
+        ensures { IfOk result (AreOnce (staged_pages self.now.overlay directory)) }
+    {
+        let bounds = bounds_of(&self.slots, directory, 0);
+        pages_of(alloc, &self.slots[bounds])
     }
 
     /// One more than the greatest slot of a directory that is staged, 0 where there is none.
