@@ -18,7 +18,7 @@ use Rattle.volume_model.proofs.PointSpace.{point_fits}
 
 pub has_point : PlannedHasPoint
 has_point r old new o m report may plan =
-    let bytes = old_bytes old (stored m) may.stands may.coherent.mountable may.whole_blocks in
+    let bytes = old_bytes old (stored m) may.stands may.coherent.mountable in
     let pages = old_pages r old new o m report may plan (directories_stand old may.stands.sound) in
     let layout = may.stands.layout ∙ sym plan.root.layout in
     record {

@@ -18,7 +18,7 @@ use Rattle.image_model.specs.Live.{IsLive, counted}
 use Rattle.image_model.specs.Met.{Met, files, metas, pointers_to, NoFaults}
 use Rattle.image_model.specs.Planned.{height_in}
 use Rattle.image_model.specs.Seen.{seen}
-use Rattle.image_model.specs.Standing.{some_block, file_block, FileStands, PlaceStands}
+use Rattle.image_model.specs.Standing.{some_block, file_block, as_block, FileStands, PlaceStands}
 use Rattle.image_model.specs.Stands.{layout_in, spot_of}
 use Rattle.image_model.proofs.Area.{files_within, split_none, no_faults as none_found}
 use Rattle.image_model.proofs.Kept.{bytes_same}
@@ -27,15 +27,17 @@ use Rattle.place_words.proofs.Counting.{among_times}
 use Rattle.point_model.specs.Laws.{MayTake, IsPlannedFor}
 use Rattle.point_model.specs.NodePlan.{block_of_place}
 use Rattle.point_model.proofs.FilePlaces.{file_places}
+use Rattle.point_model.proofs.OldBytes.{block_whole}
 use Rattle.point_model.proofs.Placed.{Comes, old as of_old, new as of_new, comes}
 use Rattle.point_model.proofs.Places.{all_file_blocks}
 use Rattle.state_laws.specs.Files.{zero_block}
 use Rattle.state_laws.specs.States.{is_held}
+use Rattle.state_laws.proofs.Bytes.{block_length}
 use Rattle.state_laws.proofs.FilesNumbered.{HasFile, file_block as bytes_of_file}
 use Rattle.state_laws.proofs.HeldBytes.{block_spot, held_is}
 use Rattle.state_laws.proofs.PointBytes.{after_held}
 use Rattle.tree_model.specs.declared.report.Report.{Report}
-use Rattle.volume_model.specs.Machine.{Machine, Rules, block_at, held}
+use Rattle.volume_model.specs.Machine.{Machine, Rules, block_at, bytes_numbered, held}
 use Rattle.volume_model.specs.Places.{Spot, Places, spot_cmp, spot_eq, has_spot, spots_of, blocks_of as blocks_in_places, is_block}
 use Rattle.volume_model.specs.Point.{placed_after, fresh_in}
 use Rattle.volume_model.proofs.PlacesTold.{tie_is}
@@ -101,7 +103,7 @@ module _ (old : List Block) (sound : (b : ℕ) → b < 1024 * count_blocks (layo
       positive kept pointers meta file e f le = omega (arith, e, f, le)
 
 module _ (r : Rules) (old new : List Block) (o : Overlay) (m : Machine) (report : Report) (may : MayTake r old o m report) (plan : IsPlannedFor r old new o m report)
-    (old_bytes : (spot : Spot) (block : ℕ) → find spot_cmp spot m.stored_places ≡ Some block → blocks_in old block ≡ block_at m.stored_tree spot) where
+    (old_bytes : (spot : Spot) (block : ℕ) → find spot_cmp spot m.stored_places ≡ Some block → as_block (blocks_in old block) ≡ block_at m.stored_tree spot) where
   abbrev placed : Places
   placed = placed_after r m (fresh_in report)
 
@@ -113,20 +115,20 @@ module _ (r : Rules) (old new : List Block) (o : Overlay) (m : Machine) (report 
       (files_within (layout_in old) (seen old).met (seen old).met may.stands.sound.pointers) block among))
 
   -- the block of each place has the bytes of the place now
-  pub placed_bytes : (spot : Spot) (block : ℕ) → find spot_cmp spot placed ≡ Some block → blocks_in new block ≡ block_at m.tree spot
+  pub placed_bytes : (spot : Spot) (block : ℕ) → find spot_cmp spot placed ≡ Some block → as_block (blocks_in new block) ≡ block_at m.tree spot
   placed_bytes spot block found = by (comes r m report may.coherent may.is_report spot block found)
     where
       same_held : (x y : List ℕ) → held m block ≡ Some x → held m block ≡ Some y → x ≡ y
       same_held x y e f = let both : Some x ≡ Some y = sym e ∙ f in cc
 
-      by : Comes m report spot block → blocks_in new block ≡ block_at m.tree spot
+      by : Comes m report spot block → as_block (blocks_in new block) ≡ block_at m.tree spot
       by (of_old has stored) =
           let at = block_spot m.stored_places block may.coherent.whole.stored_in_order stored in
           let was = held_is m may.coherent.whole.stored_in_order may.coherent.mountable.same at.spot block at.found in
-          kept_bytes block stored ∙ old_bytes at.spot block at.found ∙ same_held _ _ was has
+          ap as_block (kept_bytes block stored) ∙ old_bytes at.spot block at.found ∙ same_held _ _ was has
       by (of_new dirty fresh) =
           let staged = is_there spot o.blocks (subst (λ (ss : List Spot). has_spot ss spot ≡ true) (sym may.holds.dirty) dirty) in
-          plan.written spot block staged.block found fresh staged.found ∙ may.holds.bytes spot staged.block staged.found
+          ap as_block (plan.written spot block staged.block found fresh staged.found ∙ may.holds.bytes spot staged.block staged.found) ∙ block_whole (block_at m.tree spot) (block_length (bytes_numbered spot.0 m.tree) spot.1)
 
   -- a place that has none reads as zeros
   pub hole_bytes : (spot : Spot) → find spot_cmp spot placed ≡ None → block_at m.tree spot ≡ zero_block

@@ -13,3 +13,5 @@ mod DirectoriesStand
 mod Assembled
 mod Staged
 mod Resting
+mod SlotsFollow
+mod ChangeFollows

@@ -21,7 +21,7 @@ use Rattle.image_model.specs.Nodes.{has_tail, is_bad_directory}
 use Rattle.image_model.specs.Planned.{node_trees, height_in}
 use Rattle.image_model.specs.Seen.{SeenBlock, Seen, seen, all_held, page_held}
 use Rattle.image_model.specs.Slots.{inode_of, slots_of, slot_pieces}
-use Rattle.image_model.specs.Standing.{DirectoryStands}
+use Rattle.image_model.specs.Standing.{as_block, DirectoryStands}
 use Rattle.image_model.specs.Stands.{node_of}
 use Rattle.image_model.specs.Walk.{is_used, nodes_at}
 use Rattle.image_model.proofs.DirectoryLaws.{directory_is_seen}
@@ -118,7 +118,7 @@ told_no_slots (File own height ptr) slots size e = refl
 told_no_slots (Directory width height ptr) slots size e = cc
 
 module _ (r : Rules) (old new : List Block) (o : Overlay) (m : Machine) (report : Report) (may : MayTake r old o m report) (plan : IsPlannedFor r old new o m report)
-    (old_bytes : (spot : Spot) (block : ℕ) → find spot_cmp spot m.stored_places ≡ Some block → blocks_in old block ≡ block_at m.stored_tree spot)
+    (old_bytes : (spot : Spot) (block : ℕ) → find spot_cmp spot m.stored_places ≡ Some block → as_block (blocks_in old block) ≡ block_at m.stored_tree spot)
     (old_pages : (n place : ℕ) → kind_of (inode_now old o n) ≡ Some true → is_kept_page old o n place ≡ true
     → IsPage (slots_now old o n) place (blocks_in old (block_of_place old (inode_before old n) place)) × IsLive old (block_of_place old (inode_before old n) place)) where
   none : NoFaults (seen new).met

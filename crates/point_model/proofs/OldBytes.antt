@@ -15,16 +15,15 @@ use Rattle.image_model.specs.Met.{NoFaults}
 use Rattle.image_model.specs.Nodes.{has_tail}
 use Rattle.image_model.specs.Seen.{SeenBlock, seen}
 use Rattle.image_model.specs.Slots.{held_at, inode_of}
-use Rattle.image_model.specs.Standing.{some_block, file_block}
+use Rattle.image_model.specs.Standing.{some_block, file_block, as_block}
 use Rattle.image_model.specs.Stands.{Stands, bytes_from, node_of, spot_of, layout_in}
 use Rattle.image_model.specs.Walk.{is_used}
 use Rattle.image_model.proofs.Area.{no_faults as none_found}
-use Rattle.image_model.proofs.FileLaws.{drop_twice, places_are_seen}
+use Rattle.image_model.proofs.FileLaws.{drop_twice, tail_filled, places_are_seen}
 use Rattle.image_model.proofs.HeldLaws.{tree_is_held}
 use Rattle.image_model.proofs.NumberHeld.{bytes_held, held_from, held_here, file_found}
 use Rattle.image_model.proofs.SpaceLaws.{node_there}
 use Rattle.place_words.specs.Different.{up}
-use Rattle.point_model.specs.PointPlan.{HasWholeBlocks}
 use Rattle.state_laws.specs.Files.{HasPlace}
 use Rattle.state_laws.specs.States.{IsMountable}
 use Rattle.state_laws.proofs.FilesNumbered.{HasFile, file_block as bytes_of_file, place_file}
@@ -143,7 +142,7 @@ same_content a b e = let one : a ≡ b = cc in ap (λ (x : Node). x.content) one
 same_bytes : (all bytes : List ℕ) → content_of.File all ≡ content_of.File bytes → all ≡ bytes
 same_bytes all bytes e = cc
 
-module _ (old : List Block) (s : Stored) (stands : Stands old s) (mountable : IsMountable s) (whole : HasWholeBlocks old) where
+module _ (old : List Block) (s : Stored) (stands : Stands old s) (mountable : IsMountable s) where
   none : NoFaults (seen old).met
   none = none_found (layout_in old) (seen old).met (seen old).met stands.sound.pointers
 
@@ -156,27 +155,27 @@ module _ (old : List Block) (s : Stored) (stands : Stands old s) (mountable : Is
       held_from hs n place ∙ ap bytes_held (file_found old n size height ptr place none is)
       ∙ ap (λ o. bytes_held (held_here (blocks_in old) n place o)) (sym (places_are_seen old n size height ptr place none is) ∙ ap (find spot_cmp (n, place)) (sym stands.shows.places) ∙ found)
 
-  no_tail : (n size height ptr : ℕ) → inode_of (seen old).nodes n ≡ File size height ptr → list_all (λ b. b == 0) (drop (size - 4096 * (blocks_of size - 1)) (held_at hs n (blocks_of size - 1))) ≡ true
+  no_tail : (n size height ptr : ℕ) → inode_of (seen old).nodes n ≡ File size height ptr → list_all (λ b. b == 0) (drop (size - 4096 * (blocks_of size - 1)) (piece hs n (blocks_of size - 1))) ≡ true
+  unfolding piece
   no_tail n size height ptr is =
       let there : Contains (seen old).nodes (n, File size height ptr) = subst (λ (x : Inode). Contains (seen old).nodes (n, x)) is (node_there (seen old).nodes n (ap is_used is)) in
-      not_false _ (stands.sound.tails (n, File size height ptr) there)
+      tail_filled (size - 4096 * (blocks_of size - 1)) 4096 4096 (held_at hs n (blocks_of size - 1)) ∙ not_false _ (stands.sound.tails (n, File size height ptr) there)
     where
       not_false : (t : Bool) → not t ≡ false → t ≡ true
       not_false true e = refl
       not_false false e = cc
 
   of_inode : (n place block size height ptr : ℕ) (bytes : List ℕ) → inode_of (seen old).nodes n ≡ File size height ptr → take size (bytes_from hs n 0 (blocks_of size)) ≡ bytes → place < up (length bytes) 4096
-      → find spot_cmp (n, place) s.places ≡ Some block → blocks_in old block ≡ file_block bytes place
+      → find spot_cmp (n, place) s.places ≡ Some block → as_block (blocks_in old block) ≡ file_block bytes place
   unfolding piece
   of_inode n place block size height ptr bytes is all within found =
       let long : length bytes ≡ size = omega (arith, ap length all, length-take size (bytes_from hs n 0 (blocks_of size)), pieces_long hs n 0 (blocks_of size)) in
       let lt : place < blocks_of size = omega (arith, within, long) in
       let k = blocks_of size - place - 1 in
       let split : place + suc k ≡ blocks_of size = omega (arith, lt) in
-      let held = held_block n size height ptr place block is found in
-      let own : piece hs n place ≡ blocks_in old block = ap (λ (xs : List ℕ). take 4096 (xs ++ replicate 4096 0)) held ∙ take_at (blocks_in old block) (replicate 4096 0) 4096 (whole block) in
+      let own : piece hs n place ≡ as_block (blocks_in old block) = ap as_block (held_block n size height ptr place block is found) in
       let same : take size (bytes_from hs n 0 (place + suc k)) ≡ bytes = ap (λ (j : ℕ). take size (bytes_from hs n 0 j)) split ∙ all in
-      sym own ∙ sym (by k (nat_lt (size - 4096 * place) 4096) refl own held lt) ∙ ap (λ (bs : List ℕ). file_block bs place) same
+      sym own ∙ sym (by k (nat_lt (size - 4096 * place) 4096) refl lt) ∙ ap (λ (bs : List ℕ). file_block bs place) same
     where
       at_least : (a b : ℕ) → nat_lt a b ≡ false → b ≤ a
       at_least a b e = grind (arith, nat_tests)
@@ -184,23 +183,27 @@ module _ (old : List Block) (s : Stored) (stands : Stands old s) (mountable : Is
       less : (a b : ℕ) → nat_lt a b ≡ true → a < b
       less a b e = grind (arith, nat_tests)
 
-      by : (k : ℕ) (t : Bool) → nat_lt (size - 4096 * place) 4096 ≡ t → piece hs n place ≡ blocks_in old block → held_at hs n place ≡ blocks_in old block → place < blocks_of size
+      by : (k : ℕ) (t : Bool) → nat_lt (size - 4096 * place) 4096 ≡ t → place < blocks_of size
           → file_block (take size (bytes_from hs n 0 (place + suc k))) place ≡ piece hs n place
-      by k false e own held lt = whole_piece hs n size place k (at_least (size - 4096 * place) 4096 e)
-      by k true e own held lt =
+      by k false e lt = whole_piece hs n size place k (at_least (size - 4096 * place) 4096 e)
+      by k true e lt =
           let left : size - 4096 * place < 4096 = less (size - 4096 * place) 4096 e in
           let last : blocks_of size - 1 ≡ place = omega (arith, left, lt) in
-          let zeros : list_all (λ b. b == 0) (drop (size - 4096 * place) (held_at hs n place)) ≡ true = subst (λ (p : ℕ). list_all (λ b. b == 0) (drop (size - 4096 * p) (held_at hs n p)) ≡ true) last (no_tail n size height ptr is) in
-          last_piece hs n size place k (omega (arith, left)) (subst (λ (xs : List ℕ). list_all (λ b. b == 0) (drop (size - 4096 * place) xs) ≡ true) (held ∙ sym own) zeros)
+          let zeros : list_all (λ b. b == 0) (drop (size - 4096 * place) (piece hs n place)) ≡ true = subst (λ (p : ℕ). list_all (λ b. b == 0) (drop (size - 4096 * p) (piece hs n p)) ≡ true) last (no_tail n size height ptr is) in
+          last_piece hs n size place k (omega (arith, left)) zeros
 
   -- a place's block holds the bytes of the place
-  pub old_bytes : (spot : Spot) (block : ℕ) → find spot_cmp spot s.places ≡ Some block → blocks_in old block ≡ block_at s.tree spot
+  pub old_bytes : (spot : Spot) (block : ℕ) → find spot_cmp spot s.places ≡ Some block → as_block (blocks_in old block) ≡ block_at s.tree spot
   old_bytes spot block found =
       let has = mountable.in_files spot (found_spot s.places spot block found) in
       let seen_node = (tree_is_held old s stands).inodes has.path (record { number = spot.0; content = content_of.File has.bytes }) has.stands in
       by has (inode_of (seen old).nodes spot.0) refl seen_node ∙ sym (bytes_of_file s.tree spot has.bytes mountable.tree (place_file s.tree spot has))
     where
-      by : (has : HasPlace s.tree spot) (x : Inode) → inode_of (seen old).nodes spot.0 ≡ x → node_of (seen old) spot.0 x ≡ Some (record { number = spot.0; content = content_of.File has.bytes }) → blocks_in old block ≡ file_block has.bytes spot.1
+      by : (has : HasPlace s.tree spot) (x : Inode) → inode_of (seen old).nodes spot.0 ≡ x → node_of (seen old) spot.0 x ≡ Some (record { number = spot.0; content = content_of.File has.bytes }) → as_block (blocks_in old block) ≡ file_block has.bytes spot.1
       by has Unused is e = cc
       by has (Directory width height ptr) is e = let one : content_of.Directory width ≡ content_of.File has.bytes = same_content _ _ e in cc
       by has (File size height ptr) is e = of_inode spot.0 spot.1 block size height ptr has.bytes is (same_bytes _ has.bytes (same_content _ _ e)) has.within found
+
+-- a block of 4,096 bytes is its first 4,096 bytes
+pub block_whole : (bytes : List ℕ) → length bytes ≡ 4096 → as_block bytes ≡ bytes
+block_whole bytes long = take_at bytes (replicate 4096 0) 4096 long

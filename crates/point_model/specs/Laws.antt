@@ -1,5 +1,5 @@
 -- Laws of planned points.
-use Rattle.std.specs.Prelude.{◌≡◌, ℕ, false, List, Some}
+use Rattle.std.specs.Prelude.{◌≡◌, ℕ, false, List, length, Some}
 use Rattle.std.specs.FinMap.{find}
 use Rattle.vol_numbers.specs.declared.block.Block.{Block}
 use Rattle.block_tree.specs.Tree.{blocks_in}
@@ -8,7 +8,7 @@ use Rattle.image_model.specs.Point.{HasPoint}
 use Rattle.image_model.specs.Stands.{Stands}
 use Rattle.point_model.specs.Holding.{HoldsMachine}
 use Rattle.point_model.specs.OldPages.{DirectoriesStand}
-use Rattle.point_model.specs.PointPlan.{HasWholeBlocks, PointIsPlanned}
+use Rattle.point_model.specs.PointPlan.{PointIsPlanned}
 use Rattle.state_laws.specs.States.{IsCoherent, IsMountable}
 use Rattle.tree_model.specs.declared.report.Report.{Report}
 use Rattle.volume_model.specs.Machine.{Machine, Rules, Stored, stored, block_at}
@@ -21,7 +21,6 @@ use Rattle.volume_model.specs.Short.{is_short}
 -- the machine is coherent, the report is one of its points, and the point isn't short.
 pub record MayTake (r : Rules) (old : List Block) (o : Overlay) (m : Machine) (report : Report) : Type 0 where
   pub stands : Stands old (stored m)
-  pub whole_blocks : HasWholeBlocks old
   pub holds : HoldsMachine old o m
   pub coherent : IsCoherent r m
   pub is_report : IsReport r m report
@@ -43,10 +42,10 @@ PlannedStands = (r : Rules) (old new : List Block) (o : Overlay) (m : Machine) (
 
 -- ---- what an image of the last point has
 
--- Each block of a file holds the bytes of its places.
+-- Each block of a file holds the bytes of its places, where it has 4,096 bytes as those of a disk have.
 abbrev pub BlocksHoldBytes : Type 0
-BlocksHoldBytes = (image : List Block) (s : Stored) → Stands image s → IsMountable s → HasWholeBlocks image → (spot : Spot) (block : ℕ) → find spot_cmp spot s.places ≡ Some block
-    → blocks_in image block ≡ block_at s.tree spot
+BlocksHoldBytes = (image : List Block) (s : Stored) → Stands image s → IsMountable s → (spot : Spot) (block : ℕ) → find spot_cmp spot s.places ≡ Some block
+    → length (blocks_in image block) ≡ 4096 → blocks_in image block ≡ block_at s.tree spot
 
 -- The pages of each directory are there, and spell its slots.
 abbrev pub PagesAreSpelled : Type 0

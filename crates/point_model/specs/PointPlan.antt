@@ -29,10 +29,6 @@ use Rattle.volume_model.specs.Point.{next_point, fresh_spots, placed_at}
 
 -- ---- the root and the old blocks
 
--- each block of an image has its 4,096 bytes
-abbrev pub HasWholeBlocks : List Block → Type 0
-HasWholeBlocks image = (b : ℕ) → length (blocks_in image b) ≡ 4096
-
 -- The root has the layout of before, the next number and an empty log.
 pub record RootIsPlanned (old new : List Block) (m : Machine) : Type 0 where
   pub there : HasRoot new

@@ -1,0 +1,45 @@
+-- The effect of a change of the nodes, and the table that goes with an image and an overlay.
+use Rattle.std.specs.Prelude.{◌≡◌, ℕ, List, [], ◌∷◌, Option, Some, None, if◌then◌else◌}
+use Rattle.vol_numbers.specs.declared.block.Block.{Block}
+use Rattle.dir_slots.specs.Slots.{slot_at}
+use Rattle.dirty_store.specs.declared.effect.Effect.{Effect}
+use Rattle.dirty_store.specs.Laws.{changed_to}
+use Rattle.dirty_store.specs.Overlay.{Overlay}
+use Rattle.node_table.specs.declared.change.Change.{Change}
+use Rattle.node_table.specs.declared.change.Change.TheVariants.{Made, Sized, Removed, Renamed}
+use Rattle.node_table.specs.Held.{Nodes, held, slots_of}
+use Rattle.point_model.specs.Holding.{as_node, node_now}
+use Rattle.volume_model.specs.Places.{Spot, has_spot}
+
+-- the table has for each number the node that the image and the overlay hold
+abbrev pub IsTableOf : List Block → Overlay → Nodes → Type 0
+IsTableOf old o nodes = (n : ℕ) → held nodes n ≡ node_now old o n
+
+-- the number that a change is about
+abbrev pub number_of : Change → ℕ
+number_of (Made parent slot number) = number
+number_of (Sized number size) = number
+number_of (Removed parent slot number) = number
+number_of (Renamed number from from_slot to to_slot) = number
+
+-- the slots that a change touches, each with its directory's number
+abbrev pub slots_in : Change → List Spot
+slots_in (Made parent slot number) = (parent, slot) ∷ []
+slots_in (Sized number size) = []
+slots_in (Removed parent slot number) = (parent, slot) ∷ []
+slots_in (Renamed number from from_slot to to_slot) = (from, from_slot) ∷ (to, to_slot) ∷ []
+
+-- A new and a removed number is cut to no block, and a renamed one isn't cut. What is cut off a file is for the command to say.
+abbrev pub CutsFor : Change → Option ℕ → Type 0
+CutsFor (Made parent slot number) cut = cut ≡ Some 0
+CutsFor (Sized number size) cut = Unit {0}
+CutsFor (Removed parent slot number) cut = cut ≡ Some 0
+CutsFor (Renamed number from from_slot to to_slot) cut = cut ≡ None
+
+-- The effect is of the number that the change is about, with the kind and size that this has in the table after the change.
+-- Each slot that the change touches is staged with what it has there, and no other slot is.
+pub record IsEffectOfChange (change : Change) (after : Nodes) (e : Effect) : Type 0 where
+  pub number : e.number ≡ number_of change
+  pub node : as_node e.inode (slots_of (held after e.number)) ≡ held after e.number
+  pub cut : CutsFor change e.cut_to
+  pub slots : (spot : Spot) → changed_to e.slots spot ≡ (if has_spot (slots_in change) spot then Some (slot_at (slots_of (held after spot.0)) spot.1) else None)
