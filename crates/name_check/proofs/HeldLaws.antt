@@ -17,10 +17,11 @@ use Rattle.image_model.specs.Slots.{slots_of, inode_of}
 use Rattle.image_model.specs.Walk.{is_directory}
 use Rattle.image_model.specs.declared.finding.Finding.{Finding}
 use Rattle.image_model.specs.declared.finding.Finding.TheVariants.{BadDirectory}
-use Rattle.name_check.specs.Blocks.{blocks_held}
+use Rattle.image_walk.specs.Blocks.{blocks_held}
 use Rattle.name_check.specs.Directories.{IsRead, FindsBad, AreHeld, is_bad, pages_seen}
-use Rattle.name_check.specs.Seeing.{HoldsDirectories, HasOwners, FindsInNodes, directory_numbers}
-use Rattle.name_check.specs.declared.blocks.NodeBlock.{NodeBlock}
+use Rattle.image_walk.specs.Left.{HasOwners}
+use Rattle.name_check.specs.Seeing.{HoldsDirectories, FindsInNodes, directory_numbers}
+use Rattle.image_walk.specs.declared.node_block.NodeBlock.{NodeBlock}
 use Rattle.name_check.specs.declared.fault.NameFault.{NameFault}
 use Rattle.name_check.specs.declared.fault.NameFault.TheVariants.{Found, Device, OutOfMemory}
 use Rattle.name_check.proofs.FirstLaws.{found_there}

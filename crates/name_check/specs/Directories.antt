@@ -12,8 +12,8 @@ use Rattle.image_model.specs.Nodes.{is_bad_directory}
 use Rattle.image_model.specs.Seen.{Seen}
 use Rattle.image_model.specs.Slots.{slots_of}
 use Rattle.image_model.specs.declared.finding.Finding.TheVariants.{BadDirectory}
-use Rattle.name_check.specs.Blocks.{blocks_held}
-use Rattle.name_check.specs.declared.blocks.NodeBlock.{NodeBlock}
+use Rattle.image_walk.specs.Blocks.{blocks_held}
+use Rattle.image_walk.specs.declared.node_block.NodeBlock.{NodeBlock}
 use Rattle.name_check.specs.declared.fault.NameFault.{NameFault}
 use Rattle.name_check.specs.declared.fault.NameFault.TheVariants.{Found, Device, OutOfMemory}
 

@@ -1,4 +1,3 @@
-pub mod Blocks
 pub mod Seeing
 pub mod Tails
 pub mod Directories

@@ -7,19 +7,21 @@ ghost use Rattle.dir_slots.specs.Pages.{SpellsDirectory, pages_for};
 ghost use Rattle.place_words.specs.Rising.{Rising};
 ghost use Rattle.image_model.specs.Nodes.{directory_finding};
 ghost use Rattle.image_model.specs.Seen.{Seen};
-ghost use Rattle.name_check.specs.Blocks.{NeverFall, AreOnDisk, blocks_held};
+ghost use Rattle.image_walk.specs.Blocks.{NeverFall, AreOnDisk, blocks_held};
 ghost use Rattle.name_check.specs.Cause.{HasNameCause, IsOwn};
 ghost use Rattle.name_check.specs.Directories.{IsRead, FindsBad, FindsNone, AreHeld, is_bad};
-ghost use Rattle.name_check.specs.Seeing.{HoldsDirectories, HasOwners, HaveWidths, FindsInNodes};
+ghost use Rattle.image_walk.specs.Left.{HasOwners, HaveWidths};
+ghost use Rattle.name_check.specs.Seeing.{HoldsDirectories, FindsInNodes};
 
 use crate::NameFault;
-use crate::blocks::{NodeBlock, of_number};
+use crate::blocks::of_number;
 use crate::reading::read_pages;
 use block_format::Inode;
 use dir_slots::{DirFault, Directory};
 use disk_model::Disk;
 use held_list::HeldList;
 use image_model::Finding;
+use image_walk::NodeBlock;
 use std::alloc::Global;
 use vol_numbers::{InoNo, PageList};
 

@@ -7,7 +7,6 @@ mod fault;
 mod reading;
 mod tail_check;
 
-pub use blocks::NodeBlock;
 pub use directory_check::directories;
 pub use fault::NameFault;
 pub use tail_check::tails;
