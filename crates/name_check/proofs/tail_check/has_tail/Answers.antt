@@ -4,7 +4,7 @@ use Rattle.std.specs.List.{list_all}
 use Rattle.block_format.specs.Inode.{blocks_of}
 use Rattle.block_tree.specs.Tree.{Blocks, blocks_in}
 use Rattle.image_model.specs.Slots.{held_at}
-use Rattle.name_check.specs.Blocks.{blocks_held}
+use Rattle.image_walk.specs.Blocks.{blocks_held}
 use Rattle.name_check.proofs.tail_check.has_tail.Goals as goal
 
 -- a block's bytes from one on are the file's, where both are the same
