@@ -15,3 +15,4 @@ mod Staged
 mod Resting
 mod SlotsFollow
 mod ChangeFollows
+mod StagedNodes
