@@ -16,3 +16,4 @@ mod Resting
 mod SlotsFollow
 mod ChangeFollows
 mod StagedNodes
+mod AtRest

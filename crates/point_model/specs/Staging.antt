@@ -1,14 +1,14 @@
 -- What the effect of an accepted command is, as far as nodes and places go.
 use Rattle.std.specs.Prelude.{◌≡◌, ℕ, true, List, map, Some}
-use Rattle.vol_numbers.specs.Layout.{Layout}
 use Rattle.vol_numbers.specs.declared.block.Block.{Block}
 use Rattle.dirty_store.specs.declared.effect.Effect.{Effect}
 use Rattle.dirty_store.specs.Laws.{touched_with}
 use Rattle.dirty_store.specs.Overlay.{Overlay, IsEffect, clean, cut_of, staged}
+use Rattle.image_model.specs.Stands.{Stands}
 use Rattle.node_table.specs.Changes.{Does}
 use Rattle.node_table.specs.Held.{Nodes, HoldsNodes, AreDirectories}
 use Rattle.node_table.specs.declared.change.Change.{Change}
-use Rattle.point_model.specs.Holding.{HoldsMachine, HoldsNumbers, node_now}
+use Rattle.point_model.specs.Holding.{HoldsMachine}
 use Rattle.point_model.specs.NodeChanges.{IsTableOf, IsEffectOfChange}
 use Rattle.state_laws.specs.Accepted.{IsAccepted}
 use Rattle.state_laws.specs.States.{IsCoherent, IsMountable, is_held}
@@ -18,8 +18,8 @@ use Rattle.tree_model.specs.Tree.{Tree}
 use Rattle.tree_model.specs.Touched.{touched}
 use Rattle.volume_model.specs.Done.{is_cut, cut_by, done}
 use Rattle.volume_model.specs.Cache.{CacheList}
-use Rattle.volume_model.specs.Machine.{Machine, Rules, at_point, block_at, stored}
-use Rattle.volume_model.specs.Places.{Spot, Places}
+use Rattle.volume_model.specs.Machine.{Machine, Rules, Stored, at_point, block_at}
+use Rattle.volume_model.specs.Places.{Spot}
 
 -- The effect touches what the command does, with the bytes after it, and cuts off what the command does of what is kept or dirty.
 pub record IsEffectOn (m : Machine) (command : Command) (e : Effect) : Type 0 where
@@ -41,7 +41,6 @@ abbrev pub StagingHolds : Type 0
 StagingHolds = (r : Rules) (old : List Block) (o : Overlay) (m : Machine) (command : Command) (before after : Nodes) (e : Effect) → IsCoherent r m → IsAccepted m.tree command → IsEffect e
     → HoldsMachine old o m → IsEffectOn m command e → StagesChange old o m.tree command before after e → HoldsMachine old (staged o e) (done m command) × IsTableOf old (staged o e) after
 
--- Just after a mount without records, and just after a point, an image and a clean overlay hold what the machine does, where they hold its nodes.
+-- Just after a point, and at a mount before the records are done, an image and a clean overlay hold what the machine does.
 abbrev pub AtRest : Type 0
-AtRest = (old : List Block) (layout : Layout) (tree : Tree) (placed : Places) (point : ℕ) (cache : CacheList) → IsMountable (stored (at_point layout tree placed point cache))
-    → HoldsNumbers (node_now old clean) tree → HoldsMachine old clean (at_point layout tree placed point cache)
+AtRest = (old : List Block) (s : Stored) (cache : CacheList) → Stands old s → IsMountable s → HoldsMachine old clean (at_point s.layout s.tree s.places s.point cache)
