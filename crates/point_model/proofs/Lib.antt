@@ -15,3 +15,5 @@ mod Staged
 mod Resting
 mod SlotsFollow
 mod ChangeFollows
+mod StagedNodes
+mod AtRest

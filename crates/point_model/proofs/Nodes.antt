@@ -91,7 +91,7 @@ listed image node there = node_is (seen image).nodes (numbers_distinct (blocks_i
 
 -- ---- files have no slots
 
-no_slots : (image : List Block) → NoFaults (seen image).met → (n : ℕ) → directory_pairs (blocks_in image) (inode_of (seen image).nodes n) ≡ [] → slots_of (seen image) n ≡ []
+pub no_slots : (image : List Block) → NoFaults (seen image).met → (n : ℕ) → directory_pairs (blocks_in image) (inode_of (seen image).nodes n) ≡ [] → slots_of (seen image) n ≡ []
 unfolding seen
 no_slots image none n pairs =
     let read = blocks_in image in

@@ -1,11 +1,12 @@
 -- Staging the effect of an accepted command.
 use Rattle.std.proofs.Common.{◌≡◌, ℕ, zero, suc, ◌+◌, ◌<◌, ◌≤◌, Bool, true, false, not, cond, List, [], ◌∷◌, ◌++◌, map, filter, Some, None, inl, inr, refl, sym, ap, subst, ◌∙◌, arith}
-use Rattle.std.specs.Prelude.{◌==◌, ◌&&◌, ◌||◌, ◌⊎◌, nat_eq, nat_le, min, Option, is_some}
+use Rattle.std.specs.Prelude.{◌==◌, ◌&&◌, ◌||◌, ◌⊎◌, nat_eq, nat_le, min, Option, option_map, is_some}
 use Rattle.std.specs.FinMap.{find}
 use Rattle.std.proofs.lemmas.Bool.{eqb-true}
 use Rattle.std.proofs.lemmas.Bool.Decides.{nat_tests}
 use Rattle.vol_numbers.specs.declared.block.Block.{Block}
 use Rattle.block_format.specs.declared.inode.Inode.{Inode}
+use Rattle.dir_slots.specs.Slots.{number_in}
 use Rattle.dirty_store.specs.Entries.{Entries, cut_at}
 use Rattle.dirty_store.specs.Laws.{touched_with, first_of_two, dirty_spots, IsEffectOf}
 use Rattle.dirty_store.specs.Overlay.{Overlay, IsEffect, cut_of, staged, node_of, least_cut, lower_cut}
@@ -16,8 +17,13 @@ use Rattle.dirty_store.proofs.MachineLaws.{dirty_after_all}
 use Rattle.dirty_store.proofs.OrderLaws.{staged_in_order}
 use Rattle.dirty_store.proofs.SlotLaws.{own_node, other_node}
 use Rattle.dirty_store.proofs.StagedLaws.{touched_is, cut_is, other_is}
-use Rattle.point_model.specs.Holding.{HoldsMachine, inode_before, inode_now, staged_or, is_changed, kind_of}
-use Rattle.point_model.specs.Staging.{IsEffectOn, StagingHolds}
+use Rattle.node_table.specs.Held.{Nodes, held, info, slots_of}
+use Rattle.node_table.specs.declared.held.HeldNode.{HeldNode}
+use Rattle.point_model.specs.Holding.{HoldsMachine, HoldsNumbers, inode_before, inode_now, node_now, staged_or, is_changed, kind_of}
+use Rattle.point_model.specs.NodeChanges.{IsTableOf}
+use Rattle.point_model.specs.Staging.{IsEffectOn, StagesChange, StagingHolds}
+use Rattle.point_model.proofs.ChangeFollows.{ChangeFollows, change_follows}
+use Rattle.point_model.proofs.StagedNodes.{table_after, kind_after}
 use Rattle.state_laws.specs.Accepted.{IsAccepted}
 use Rattle.state_laws.specs.Files.{PlacesFollow}
 use Rattle.state_laws.specs.States.{IsCoherent, is_held}
@@ -25,6 +31,7 @@ use Rattle.state_laws.proofs.Changes.{changes_follow}
 use Rattle.state_laws.proofs.HeldBytes.{found_spot}
 use Rattle.tree_model.specs.declared.command.Command.{Command}
 use Rattle.tree_model.specs.Step.{step}
+use Rattle.tree_model.specs.Tree.{Tree}
 use Rattle.tree_model.specs.Touched.{touched}
 use Rattle.volume_model.specs.Done.{Cut, is_cut, cut_by, done}
 use Rattle.volume_model.specs.Machine.{Machine, Rules, block_at}
@@ -155,8 +162,20 @@ becomes o e spot = by (nat_eq spot.0 e.number) refl (touched_with e.touched spot
         apart : (a b : ℕ) → a ≡ b → nat_eq a b ≡ false → ⊥
         apart a b e is = grind (arith, nat_tests)
 
-module _ (r : Rules) (old : List Block) (o : Overlay) (m : Machine) (command : Command) (e : Effect) (coherent : IsCoherent r m) (accepted : IsAccepted m.tree command) (fits : IsEffect e)
-    (holds : HoldsMachine old o m) (does : IsEffectOn old o m command e) where
+-- nodes that are the same number by number hold the same tree
+table_holds : (before after : ℕ → Option HeldNode) (tree : Tree) → ((n : ℕ) → before n ≡ after n) → HoldsNumbers before tree → HoldsNumbers after tree
+table_holds before after tree same holds = record {
+  each = λ path at there. sym (ap (option_map info) (same at.number)) ∙ holds.each path at there;
+  slots = λ path at name there. sym (ap (λ h. number_in (slots_of h) name) (same at.number)) ∙ holds.slots path at name there;
+  others = λ n is. holds.others n (ap is_some (same n) ∙ is);
+  directories = λ n slots is. holds.directories n slots (same n ∙ is);
+}
+
+module _ (r : Rules) (old : List Block) (o : Overlay) (m : Machine) (command : Command) (before after : Nodes) (e : Effect) (coherent : IsCoherent r m) (accepted : IsAccepted m.tree command) (fits : IsEffect e)
+    (holds : HoldsMachine old o m) (does : IsEffectOn m command e) (stages : StagesChange old o m.tree command before after e) where
+  follows : ChangeFollows stages.change before after
+  follows = change_follows before after command stages.change stages.does
+
   follow : PlacesFollow m.tree (step m.tree command).1 (is_cut (cut_by m.tree command)) (has_spot (touched m.tree command))
   follow = changes_follow m.tree command coherent.tree accepted
 
@@ -281,7 +300,18 @@ module _ (r : Rules) (old : List Block) (o : Overlay) (m : Machine) (command : C
       by true is was =
           let same : n ≡ e.number = eqb-true n e.number is in
           let here : node_of (staged o e) n ≡ Some (record { inode = e.inode; cut_to = lower_cut (node_of o e.number) e.cut_to }) = (λ i. node_of (staged o e) (same i)) ∙ own_node o e in
-          subst (λ c. (kind_of (staged_or c (inode_before old n)) ≡ kind_of (inode_before old n)) ⊎ (least_cut c ≡ 0)) (sym here) (own same was does.kind)
+          subst (λ c. (kind_of (staged_or c (inode_before old n)) ≡ kind_of (inode_before old n)) ⊎ (least_cut c ≡ 0)) (sym here) (own same was (kind_after old o before after stages.change e stages.table follows stages.effect))
+
+  table : IsTableOf old (staged o e) after
+  table = table_after old o before after stages.change e stages.table follows stages.effect
+
+  nodes_after : HoldsNumbers (node_now old (staged o e)) (step m.tree command).1
+  nodes_after = table_holds (held after) (node_now old (staged o e)) (step m.tree command).1 table (record {
+    each = stages.holds.each;
+    slots = stages.holds.slots;
+    others = stages.holds.others;
+    directories = stages.directories;
+  })
 
   holds_after : HoldsMachine old (staged o e) (done m command)
   holds_after = record {
@@ -289,9 +319,10 @@ module _ (r : Rules) (old : List Block) (o : Overlay) (m : Machine) (command : C
     dirty = dirty_after;
     bytes = bytes_after;
     kept = kept_after;
-    nodes = does.nodes;
+    nodes = nodes_after;
     renewed = renewed_after;
   }
 
 pub staging_holds : StagingHolds
-staging_holds r old o m command e coherent accepted fits holds does = holds_after r old o m command e coherent accepted fits holds does
+staging_holds r old o m command before after e coherent accepted fits holds does stages =
+    (holds_after r old o m command before after e coherent accepted fits holds does stages, table r old o m command before after e coherent accepted fits holds does stages)

@@ -1,6 +1,6 @@
 pub mod Holding
-pub mod Staging
 pub mod NodeChanges
+pub mod Staging
 pub mod OldPages
 pub mod NodePlan
 pub mod PointPlan

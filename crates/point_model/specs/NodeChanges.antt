@@ -1,19 +1,25 @@
 -- The effect of a change of the nodes, and the table that goes with an image and an overlay.
-use Rattle.std.specs.Prelude.{◌≡◌, ℕ, List, [], ◌∷◌, Option, Some, None, if◌then◌else◌}
+use Rattle.std.specs.Prelude.{◌≡◌, ℕ, List, [], ◌∷◌, take, Option, Some, None, if◌then◌else◌}
 use Rattle.vol_numbers.specs.declared.block.Block.{Block}
 use Rattle.dir_slots.specs.Slots.{slot_at}
 use Rattle.dirty_store.specs.declared.effect.Effect.{Effect}
 use Rattle.dirty_store.specs.Laws.{changed_to}
-use Rattle.dirty_store.specs.Overlay.{Overlay}
+use Rattle.dirty_store.specs.Overlay.{Overlay, clean}
+use Rattle.image_model.specs.Seen.{seen}
+use Rattle.image_model.specs.Slots.{slots_of as slots_seen}
 use Rattle.node_table.specs.declared.change.Change.{Change}
 use Rattle.node_table.specs.declared.change.Change.TheVariants.{Made, Sized, Removed, Renamed}
 use Rattle.node_table.specs.Held.{Nodes, held, slots_of}
-use Rattle.point_model.specs.Holding.{as_node, node_now}
+use Rattle.point_model.specs.Holding.{inode_before, width_in, as_node, node_now}
 use Rattle.volume_model.specs.Places.{Spot, has_spot}
 
 -- the table has for each number the node that the image and the overlay hold
 abbrev pub IsTableOf : List Block → Overlay → Nodes → Type 0
 IsTableOf old o nodes = (n : ℕ) → held nodes n ≡ node_now old o n
+
+-- Where nothing is staged, each number has the node of its inode, with the slots that are seen up to its width.
+abbrev pub CleanNodesAre : Type 0
+CleanNodesAre = (old : List Block) (n : ℕ) → node_now old clean n ≡ as_node (inode_before old n) (take (width_in (inode_before old n)) (slots_seen (seen old) n))
 
 -- the number that a change is about
 abbrev pub number_of : Change → ℕ

@@ -1,5 +1,6 @@
 //! Laws of planned points.
 ghost use Rattle.point_model.specs.Laws.{BlocksHoldBytes, PagesAreSpelled, PlannedHasPoint, PlannedStands};
+ghost use Rattle.point_model.specs.NodeChanges.{CleanNodesAre};
 ghost use Rattle.point_model.specs.Staging.{AtRest, StagingHolds};
 
 /// An image in which a point is planned has all that a point owes.
@@ -22,12 +23,17 @@ pub fn pages_are_spelled()
     ensures { PagesAreSpelled }
 {}
 
-/// Staging the effect of an accepted command keeps what an image and an overlay hold.
+/// Staging the effect of an accepted command keeps what an image and an overlay hold, and the table after the command is then theirs.
 pub fn staging_holds()
     ensures { StagingHolds }
 {}
 
-/// Just after a point an image and a clean overlay hold what the machine does, where they hold its nodes.
+/// Just after a point, and at a mount before the records are done, an image and a clean overlay hold what the machine does.
 pub fn at_rest()
     ensures { AtRest }
+{}
+
+/// Where nothing is staged, each number has the node of its inode, with the slots that are seen up to its width.
+pub fn clean_nodes_are()
+    ensures { CleanNodesAre }
 {}
