@@ -4,3 +4,4 @@ pub mod SlotLaws
 pub mod ReadLaws
 pub mod BadLaws
 pub mod HeldLaws
+pub mod NamingLaws
