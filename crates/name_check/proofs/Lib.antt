@@ -5,3 +5,5 @@ pub mod ReadLaws
 pub mod BadLaws
 pub mod HeldLaws
 pub mod NamingLaws
+pub mod AmongLaws
+pub mod ReachLaws

@@ -1,5 +1,6 @@
 //! What is reached from the root directory over entries.
-ghost use Rattle.std.specs.Prelude.{◌≡◌, ◌≤◌, ◌∷◌, [], ℕ, All, IfOk, OnOk, length};
+ghost use Rattle.std.specs.Prelude.{◌≡◌, ◌≤◌, ◌<◌, ◌∷◌, [], ℕ, false, All, IfOk, OnOk, IfSome, IfNone, length, is_some, slice_index_or};
+ghost use Rattle.held_list.specs.Held.{slots_at};
 ghost use Rattle.std.specs.FinSet as set;
 ghost use Rattle.name_check.specs.Reaching.{IsSearch, Reaches, is_among, named_at, reached_from};
 
@@ -31,6 +32,13 @@ fn nothing(alloc: Global, directories: &HeldList) -> Result<Search, AllocError>
     Ok(Search { reached, queue })
 }
 
+/// Whether a number is a directory's.
+fn is_directory(directories: &HeldList, number: InoNo) -> bool
+    ensures { result ≡ is_some (slots_at directories.now number) }
+{
+    directories.get(number).is_some()
+}
+
 /// Reaches a number. A directory that wasn't reached before goes to the end of the queue.
 fn reach(search: &mut Search, directories: &HeldList, number: InoNo) -> Result<(), AllocError>
     requires search { IsSearch directories.now search.old }
@@ -41,7 +49,7 @@ fn reach(search: &mut Search, directories: &HeldList, number: InoNo) -> Result<(
     if search.reached.has(number) {
         return Ok(());
     }
-    if directories.get(number).is_some() {
+    if is_directory(directories, number) {
         search.queue.push(number)?;
     }
     search.reached.put(number);
@@ -85,6 +93,15 @@ fn go_through(
     }
 }
 
+/// The directory at a place of the queue.
+fn queued(search: &Search, place: usize) -> Option<InoNo>
+    ensures within { IfSome result (λ number. place < length search.now.queue.items) }
+    ensures at { IfSome result (λ number. slice_index_or search.now.queue.items place number ≡ number) }
+    ensures none { IfNone result (length search.now.queue.items ≤ place) }
+{
+    search.queue.get(place).copied()
+}
+
 /// The numbers that are reached from the root directory. Each directory is gone through once at most.
 pub(crate) fn reached(alloc: Global, directories: &HeldList) -> Result<NumberSet, AllocError>
     ensures { IfOk result (λ reached. (k n : ℕ) → length directories.now ≤ k → set.contains reached n ≡ is_among (reached_from directories.now k) n) }
@@ -92,9 +109,9 @@ pub(crate) fn reached(alloc: Global, directories: &HeldList) -> Result<NumberSet
     let mut search = nothing(alloc, directories)?;
     reach(&mut search, directories, ROOT)?;
     for i in 0..directories.len() {
-        match search.queue.get(i).copied() {
+        match queued(&search, i) {
             Some(number) => go_through(alloc, &mut search, directories, number)?,
-            None => break,
+            None => return Ok(search.reached),
         }
     }
     Ok(search.reached)
