@@ -2,3 +2,6 @@ pub mod Seeing
 pub mod Tails
 pub mod Directories
 pub mod Cause
+pub mod Names
+pub mod Reaching
+pub mod Lost
