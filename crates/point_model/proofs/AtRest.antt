@@ -44,7 +44,7 @@ use Rattle.volume_model.specs.Machine.{Stored}
 abbrev left : List Block → ℕ → List Slot
 left old n = take (width_in (inode_before old n)) (slots_seen (seen old) n)
 
-clean_slots : (old : List Block) (n : ℕ) → slots_now old clean n ≡ left old n
+pub clean_slots : (old : List Block) (n : ℕ) → slots_now old clean n ≡ left old n
 clean_slots old n = slots_are (slot_now old clean n) (left old n) 0 _ (no_more (length (left old n))) (λ k lt. let e : 0 + k ≡ k = omega arith in ap (slot_at (left old n)) e)
   where
     no_more : (n : ℕ) → max n 0 ≡ n

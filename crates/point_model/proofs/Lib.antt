@@ -17,3 +17,4 @@ mod SlotsFollow
 mod ChangeFollows
 mod StagedNodes
 mod AtRest
+mod FreshPoint

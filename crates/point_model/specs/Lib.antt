@@ -5,3 +5,4 @@ pub mod OldPages
 pub mod NodePlan
 pub mod PointPlan
 pub mod Laws
+pub mod FreshPoint

@@ -1,4 +1,5 @@
 //! Laws of planned points.
+ghost use Rattle.point_model.specs.FreshPoint.{FreshPointIsPlanned};
 ghost use Rattle.point_model.specs.Laws.{BlocksHoldBytes, PagesAreSpelled, PlannedHasPoint, PlannedStands};
 ghost use Rattle.point_model.specs.NodeChanges.{CleanNodesAre};
 ghost use Rattle.point_model.specs.Staging.{AtRest, StagingHolds};
@@ -11,6 +12,11 @@ pub fn planned_has_point()
 /// An image in which a point is planned stands for the state after the point.
 pub fn planned_stands()
     ensures { PlannedStands }
+{}
+
+/// Over a fresh volume with nothing pending a point may be taken, and is planned in an image with the next root.
+pub fn fresh_point_is_planned()
+    ensures { FreshPointIsPlanned }
 {}
 
 /// In an image that stands for something, each block of a file holds the bytes of its places.
