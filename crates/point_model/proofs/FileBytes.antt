@@ -4,6 +4,7 @@ use Rattle.std.specs.Prelude.{◌==◌, ◌&&◌, ◌||◌, nat_eq, nat_lt, nat_
 use Rattle.std.specs.FinMap.{find}
 use Rattle.std.proofs.lemmas.Bool.{eqb-true}
 use Rattle.std.proofs.lemmas.Bool.Decides.{nat_tests}
+use Rattle.std.proofs.lemmas.List.{take_at}
 use Rattle.vol_numbers.specs.Layout.{Layout, area_start, count_blocks}
 use Rattle.vol_numbers.specs.declared.block.Block.{Block}
 use Rattle.block_format.specs.Inode.{blocks_of, pointer_of}
@@ -27,7 +28,6 @@ use Rattle.place_words.proofs.Counting.{among_times}
 use Rattle.point_model.specs.Laws.{MayTake, IsPlannedFor}
 use Rattle.point_model.specs.NodePlan.{block_of_place}
 use Rattle.point_model.proofs.FilePlaces.{file_places}
-use Rattle.point_model.proofs.OldBytes.{block_whole}
 use Rattle.point_model.proofs.Placed.{Comes, old as of_old, new as of_new, comes}
 use Rattle.point_model.proofs.Places.{all_file_blocks}
 use Rattle.state_laws.specs.Files.{zero_block}
@@ -41,6 +41,10 @@ use Rattle.volume_model.specs.Machine.{Machine, Rules, block_at, bytes_numbered,
 use Rattle.volume_model.specs.Places.{Spot, Places, spot_cmp, spot_eq, has_spot, spots_of, blocks_of as blocks_in_places, is_block}
 use Rattle.volume_model.specs.Point.{placed_after, fresh_in}
 use Rattle.volume_model.proofs.PlacesTold.{tie_is}
+
+-- a block of 4,096 bytes is its first 4,096 bytes
+pub block_whole : (bytes : List ℕ) → length bytes ≡ 4096 → as_block bytes ≡ bytes
+block_whole bytes long = take_at bytes (replicate 4096 0) 4096 long
 
 -- ---- spots that are found, or not
 

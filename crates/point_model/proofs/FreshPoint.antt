@@ -160,7 +160,7 @@ module _ (r : Rules) (g : Layout) (old new : List Block) (positive : 0 < r.thres
   may : MayTake r old clean (fresh_machine g) (fresh_report r g)
   may = record {
     stands = stands;
-    holds = at_rest old (fresh_stored g) [] stands mountable;
+    holds = at_rest old (fresh_stored g) [] stands;
     coherent = coherent;
     is_report = record { positive = positive; whole = coherent.whole; point = record { may = refl; is = refl } };
     long = long;

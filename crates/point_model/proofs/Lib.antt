@@ -6,7 +6,6 @@ mod Places
 mod FilePlaces
 mod FileBytes
 mod Nodes
-mod OldBytes
 mod OldPages
 mod KeptPages
 mod DirectoriesStand
