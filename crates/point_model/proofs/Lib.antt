@@ -17,3 +17,4 @@ mod ChangeFollows
 mod StagedNodes
 mod AtRest
 mod FreshPoint
+mod BuiltEffects

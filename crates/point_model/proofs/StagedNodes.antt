@@ -58,7 +58,7 @@ slots_are at (slot ∷ slots) j (suc n) long each =
 
 -- ---- the width of staged slots
 
-spot_parts : (a b : Spot) → spot_eq a b ≡ true → (a.0 ≡ b.0) × (a.1 ≡ b.1)
+pub spot_parts : (a b : Spot) → spot_eq a b ≡ true → (a.0 ≡ b.0) × (a.1 ≡ b.1)
 spot_parts a b is = by (nat_eq a.0 b.0) (nat_eq a.1 b.1) refl refl is
   where
     by : (t u : Bool) → nat_eq a.0 b.0 ≡ t → nat_eq a.1 b.1 ≡ u → (t && u) ≡ true → (a.0 ≡ b.0) × (a.1 ≡ b.1)

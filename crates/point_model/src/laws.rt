@@ -1,7 +1,7 @@
 //! Laws of planned points.
 ghost use Rattle.point_model.specs.FreshPoint.{FreshPointIsPlanned};
 ghost use Rattle.point_model.specs.Laws.{BlocksHoldBytes, PagesAreSpelled, PlannedHasPoint, PlannedStands};
-ghost use Rattle.point_model.specs.NodeChanges.{CleanNodesAre};
+ghost use Rattle.point_model.specs.NodeChanges.{BuiltIsOfChange, CleanNodesAre};
 ghost use Rattle.point_model.specs.Staging.{AtRest, StagingHolds};
 
 /// An image in which a point is planned has all that a point owes.
@@ -32,6 +32,11 @@ pub fn pages_are_spelled()
 /// Staging the effect of an accepted command keeps what an image and an overlay hold, and the table after the command is then theirs.
 pub fn staging_holds()
     ensures { StagingHolds }
+{}
+
+/// An effect that is built of a change of the nodes is the change's.
+pub fn built_is_of_change()
+    ensures { BuiltIsOfChange }
 {}
 
 /// Just after a point, and at a mount before the records are done, an image and a clean overlay hold what the machine does.
