@@ -1,5 +1,5 @@
 -- An image in which a point is planned has all that a point owes.
-use Rattle.std.proofs.Common.{◌≡◌, ℕ, ◌≤◌, Bool, true, false, List, Some, refl, sym, ap, subst, ◌∙◌}
+use Rattle.std.proofs.Common.{◌≡◌, ℕ, ◌≤◌, Some, refl, sym, subst, ◌∙◌}
 use Rattle.vol_numbers.specs.Layout.{Layout}
 use Rattle.std.specs.FinMap.{find}
 use Rattle.block_tree.specs.Tree.{blocks_in}

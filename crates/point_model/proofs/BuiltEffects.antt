@@ -1,23 +1,21 @@
 -- An effect that is built of a change is the change's.
-use Rattle.std.proofs.Common.{◌≡◌, ℕ, suc, ◌<◌, ◌≤◌, Bool, true, false, cond, List, [], ◌∷◌, ◌++◌, length, Some, None, refl, sym, ap, subst, ◌∙◌, arith}
-use Rattle.std.specs.Prelude.{◌&&◌, ◌||◌, nat_eq, max, ◌+◌, Option, option_map, slice_set}
+use Rattle.std.proofs.Common.{◌≡◌, ℕ, Bool, true, false, cond, List, [], ◌∷◌, ◌++◌, length, Some, None, refl, sym, ap, ◌∙◌, arith}
+use Rattle.std.specs.Prelude.{◌&&◌, ◌||◌, nat_eq, max, ◌+◌, Option, option_map}
 use Rattle.std.proofs.lemmas.Bool.{eqb-true}
-use Rattle.std.proofs.lemmas.Bool.Decides.{nat_tests}
 use Rattle.block_format.specs.declared.inode.Inode.{Inode}
 use Rattle.block_format.specs.declared.inode.Inode.TheVariants as inode
 use Rattle.block_format.specs.declared.slot.Slot.{Slot}
 use Rattle.block_format.specs.declared.slot.Slot.TheVariants.{Unused, Entry}
-use Rattle.dir_slots.specs.Slots.{slot_at, with_slot}
+use Rattle.dir_slots.specs.Slots.{slot_at}
 use Rattle.dirty_store.specs.Laws.{changed_to, first_of_two}
-use Rattle.dirty_store.specs.declared.effect.Effect.{Effect}
-use Rattle.node_table.specs.Changes.{Does, IsMade, IsSized, IsRemoved, IsRenamed, IsSet, GetsEntry, LosesEntry, Makes, Removes, Renames}
+use Rattle.node_table.specs.Changes.{Does, IsMade, IsSized, IsRemoved, IsRenamed, GetsEntry, LosesEntry}
 use Rattle.node_table.specs.Held.{Nodes, held, slots_of, info}
 use Rattle.node_table.specs.declared.change.Change.{Change}
 use Rattle.node_table.specs.declared.change.Change.TheVariants.{Made, Sized, Removed, Renamed}
 use Rattle.node_table.specs.declared.held.HeldNode.{HeldNode}
 use Rattle.node_table.specs.declared.held.HeldNode.TheVariants.{File, Directory}
 use Rattle.point_model.specs.Holding.{as_node}
-use Rattle.point_model.specs.NodeChanges.{slots_in, slot_changes, GivesName, IsBuiltOf, IsEffectOfChange, BuiltIsOfChange}
+use Rattle.point_model.specs.NodeChanges.{slots_in, slot_changes, GivesName, BuiltIsOfChange}
 use Rattle.point_model.specs.PointPlan.{told}
 use Rattle.point_model.proofs.ChangeFollows.{set_here, set_other, gets_follow, made_apart}
 use Rattle.point_model.proofs.SlotsFollow.{first_within, slot_within, put_here, set_here as slot_here}

@@ -1,44 +1,41 @@
 -- A point over a fresh volume with nothing pending is planned in an image with the next root.
-use Rattle.std.proofs.Common.{◌≡◌, ℕ, zero, suc, ◌+◌, ◌-◌, ◌*◌, ◌^◌, ◌<◌, ◌≤◌, Bool, true, false, not, cond, List, [], ◌∷◌, ◌++◌, length, take, drop, replicate, get_or, Some, None, refl, sym, ap, subst, ◌∙◌, arith, length-append}
-use Rattle.std.specs.Prelude.{◌==◌, ◌&&◌, ◌||◌, nat_eq, nat_lt, nat_le, Option, option_map, slice_get}
-use Rattle.std.specs.List.{AllByRecursion, flat_map}
-use Rattle.std.specs.FinMap.{find}
+use Rattle.std.proofs.Common.{◌≡◌, ℕ, zero, suc, ◌+◌, ◌*◌, ◌^◌, ◌<◌, ◌≤◌, Bool, true, false, cond, List, [], ◌∷◌, ◌++◌, length, take, drop, replicate, get_or, refl, sym, ap, subst, ◌∙◌, arith, length-append}
+use Rattle.std.specs.Prelude.{◌==◌, ◌&&◌, nat_lt, nat_le, option_map}
+use Rattle.std.specs.List.{flat_map}
 use Rattle.std.proofs.lemmas.Bool.Decides.{nat_tests}
-use Rattle.std.proofs.lemmas.List.{take_at, drop_at}
-use Rattle.vol_numbers.specs.Layout.{Layout, area_start, count_blocks, log_start}
+use Rattle.std.proofs.lemmas.List.{take_at}
+use Rattle.vol_numbers.specs.Layout.{Layout, area_start, count_blocks}
 use Rattle.vol_numbers.specs.declared.block.Block.{Block}
-use Rattle.block_format.specs.Index.{index_bytes}
 use Rattle.block_format.specs.Inode.{pointer_of}
 use Rattle.block_format.specs.Root.{Root}
 use Rattle.block_format.specs.Words.{words}
 use Rattle.block_format.specs.declared.inode.Inode.{Inode}
 use Rattle.block_format.specs.declared.inode.Inode.TheVariants.{Unused, File, Directory}
 use Rattle.block_format.proofs.WordLaws.{words-index_bytes, small_words}
-use Rattle.block_tree.specs.Edit.{changed_at, cut_at}
 use Rattle.block_tree.specs.Planned.{pointers_of}
 use Rattle.block_tree.specs.Tree.{Blocks, blocks_in, block_below, index_at, nonzero, indexes_below, pairs_below, IsFull}
-use Rattle.count_pairs.specs.Table.{AllStand, count_block}
+use Rattle.count_pairs.specs.Table.{count_block}
 use Rattle.dir_slots.specs.Pages.{pages_for}
 use Rattle.dirty_store.specs.Overlay.{clean}
 use Rattle.image_model.specs.Findings.{is_in_area}
-use Rattle.image_model.specs.Fresh.{IsFresh, fresh_inode, fresh_count, fresh_stored, fresh_root}
+use Rattle.image_model.specs.Fresh.{IsFresh, fresh_inode, fresh_count, fresh_stored}
 use Rattle.image_model.specs.Live.{IsLive, home, logged, counted}
 use Rattle.image_model.specs.Nodes.{AllBelow, blocks_in_node}
-use Rattle.image_model.specs.Plan.{IsPlanned, inode_pointers, taken_in}
-use Rattle.image_model.specs.Planned.{GroupStands, InodesStand, IsSpelled, height_in, inodes_bytes}
+use Rattle.image_model.specs.Plan.{IsPlanned, taken_in}
+use Rattle.image_model.specs.Planned.{InodesStand, height_in}
 use Rattle.image_model.specs.Point.{TakesFree}
 use Rattle.image_model.specs.Seen.{seen, counts_from, home_in}
-use Rattle.image_model.specs.Slots.{inode_of, slots_of as slots_seen}
-use Rattle.image_model.specs.Stands.{Stands, layout_in, used_in}
+use Rattle.image_model.specs.Slots.{slots_of as slots_seen}
+use Rattle.image_model.specs.Stands.{Stands, layout_in}
 use Rattle.image_model.proofs.FreshLaws.{fresh_stands, fresh_has_point}
 use Rattle.image_model.proofs.InodesSeen.{inodes_are_seen}
 use Rattle.image_model.proofs.Kept.{bytes_same}
 use Rattle.node_table.specs.Held.{info}
-use Rattle.place_words.specs.Different.{times, span, is_among}
+use Rattle.place_words.specs.Different.{times, span}
 use Rattle.point_model.specs.FreshPoint.{HasNextRoot, fresh_machine, fresh_report, FreshPointIsPlanned}
 use Rattle.point_model.specs.Holding.{inode_before, node_now, slots_now, width_in, as_node}
 use Rattle.point_model.specs.Laws.{MayTake, IsPlannedFor}
-use Rattle.point_model.specs.NodePlan.{block_of_place, node_pointers, node_metas, TreeIsPlanned, PointersArePlanned, PagesArePlanned}
+use Rattle.point_model.specs.NodePlan.{block_of_place, node_pointers, node_metas, TreeIsPlanned, PointersArePlanned}
 use Rattle.point_model.specs.PointPlan.{RootIsPlanned, LiveStays, told, InodesArePlanned, ContentIsPlanned, NodeIsPlanned, CountsArePlanned, of_all}
 use Rattle.point_model.proofs.AtRest.{clean_nodes, clean_slots}
 use Rattle.point_model.proofs.Resting.{at_rest}
@@ -49,7 +46,6 @@ use Rattle.state_laws.proofs.Commands.{mounted_coherent}
 use Rattle.state_laws.proofs.FreshState.{fresh_is_mountable}
 use Rattle.tree_model.specs.Tree.{new_tree}
 use Rattle.volume_model.specs.Machine.{Rules}
-use Rattle.volume_model.specs.Places.{Spot, spot_cmp}
 use Rattle.volume_model.specs.Space.{free_blocks, metadata_blocks}
 
 -- ---- the inode of each number
