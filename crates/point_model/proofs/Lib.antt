@@ -18,3 +18,4 @@ mod StagedNodes
 mod AtRest
 mod FreshPoint
 mod BuiltEffects
+mod SwitchedRoot

@@ -2,6 +2,7 @@ pub mod Holding
 pub mod OldPages
 pub mod NodePlan
 pub mod PointPlan
+pub mod RootPlan
 pub mod NodeChanges
 pub mod Staging
 pub mod Laws

@@ -2,6 +2,7 @@
 ghost use Rattle.point_model.specs.FreshPoint.{FreshPointIsPlanned};
 ghost use Rattle.point_model.specs.Laws.{BlocksHoldBytes, PagesAreSpelled, PlannedHasPoint, PlannedStands};
 ghost use Rattle.point_model.specs.NodeChanges.{BuiltIsOfChange, CleanNodesAre};
+ghost use Rattle.point_model.specs.RootPlan.{SwitchedRootIsPlanned};
 ghost use Rattle.point_model.specs.Staging.{AtRest, StagingHolds};
 
 /// An image in which a point is planned has all that a point owes.
@@ -12,6 +13,11 @@ pub fn planned_has_point()
 /// An image in which a point is planned stands for the state after the point.
 pub fn planned_stands()
     ensures { PlannedStands }
+{}
+
+/// An image that a switch leaves has the root that is planned, where the body of the switch is the one for it.
+pub fn switched_root_is_planned()
+    ensures { SwitchedRootIsPlanned }
 {}
 
 /// Over a fresh volume with nothing pending a point may be taken, and is planned in an image with the next root.
