@@ -3,4 +3,4 @@
 
 mod laws;
 
-pub use laws::{mounting_is_reached, standing_fits, standing_is_mountable};
+pub use laws::{mounting_is_reached, places_read_blocks, standing_fits, standing_is_mountable};

@@ -1,24 +1,29 @@
 -- An image in which a point is planned has all that a point owes.
-use Rattle.std.proofs.Common.{◌≡◌, ℕ, ◌≤◌, Bool, true, false, List, Some, refl, sym, ap, subst, ◌∙◌}
+use Rattle.std.proofs.Common.{◌≡◌, ℕ, ◌≤◌, Some, refl, sym, subst, ◌∙◌}
 use Rattle.vol_numbers.specs.Layout.{Layout}
+use Rattle.std.specs.FinMap.{find}
+use Rattle.block_tree.specs.Tree.{blocks_in}
 use Rattle.image_model.specs.Plan.{taken_in}
+use Rattle.image_model.specs.Standing.{as_block}
+use Rattle.image_states.proofs.SeenPlaces.{reads_block}
 use Rattle.image_model.proofs.PointLaws.{point_stands}
 use Rattle.point_model.specs.Laws.{PlannedHasPoint, PlannedStands}
 use Rattle.point_model.proofs.Counted.{counts_new}
 use Rattle.point_model.proofs.FilePlaces.{places_new, files_new}
 use Rattle.point_model.proofs.DirectoriesStand.{directories_stand}
 use Rattle.point_model.proofs.KeptPages.{old_pages}
-use Rattle.point_model.proofs.OldBytes.{old_bytes}
 use Rattle.point_model.proofs.Nodes.{tails_new, directories_new, holds_new}
 use Rattle.point_model.proofs.Spelled.{no_faults, leads}
-use Rattle.volume_model.specs.Machine.{stored}
+use Rattle.volume_model.specs.Machine.{stored, block_at}
+use Rattle.volume_model.specs.Places.{Spot, spot_cmp}
 use Rattle.volume_model.specs.Point.{placed_after, fresh_in}
 use Rattle.volume_model.specs.Space.{free_blocks}
 use Rattle.volume_model.proofs.PointSpace.{point_fits}
 
 pub has_point : PlannedHasPoint
 has_point r old new o m report may plan =
-    let bytes = old_bytes old (stored m) may.stands may.coherent.mountable in
+    let bytes : (spot : Spot) (block : ℕ) → find spot_cmp spot m.stored_places ≡ Some block → as_block (blocks_in old block) ≡ block_at m.stored_tree spot =
+    λ spot block found. sym (reads_block old (stored m) may.stands spot block found) in
     let pages = old_pages r old new o m report may plan (directories_stand old may.stands.sound) in
     let layout = may.stands.layout ∙ sym plan.root.layout in
     record {

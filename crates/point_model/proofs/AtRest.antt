@@ -1,6 +1,6 @@
 -- The nodes that an image holds where nothing is staged.
-use Rattle.std.proofs.Common.{◌≡◌, ℕ, zero, suc, ◌+◌, ◌<◌, Bool, true, false, not, cond, List, [], ◌∷◌, ◌++◌, length, take, drop, Some, None, refl, sym, ap, subst, ◌∙◌, arith}
-use Rattle.std.specs.Prelude.{◌==◌, ◌&&◌, ◌||◌, bytes_eq, max, Option, option_map, is_some, Contains}
+use Rattle.std.proofs.Common.{◌≡◌, ℕ, zero, suc, ◌+◌, Bool, true, false, not, cond, List, [], ◌∷◌, length, take, drop, Some, None, refl, sym, ap, subst, ◌∙◌, arith}
+use Rattle.std.specs.Prelude.{◌||◌, bytes_eq, max, option_map, is_some, Contains}
 use Rattle.std.specs.List.{list_all}
 use Rattle.vol_numbers.specs.declared.block.Block.{Block}
 use Rattle.block_format.specs.declared.inode.Inode.{Inode}
@@ -12,10 +12,10 @@ use Rattle.dir_slots.specs.Slots.{slot_at, number_in, IsDirectory}
 use Rattle.dirty_store.specs.Overlay.{clean}
 use Rattle.image_model.specs.Holds.{HoldsTree}
 use Rattle.image_model.specs.Met.{NoFaults}
-use Rattle.image_model.specs.Nodes.{is_empty, is_bad_directory}
+use Rattle.image_model.specs.Nodes.{is_empty}
 use Rattle.image_model.specs.Reading.{HasDirectory}
 use Rattle.image_model.specs.Seen.{seen}
-use Rattle.image_model.specs.Slots.{inode_of, slots_of as slots_seen}
+use Rattle.image_model.specs.Slots.{slots_of as slots_seen}
 use Rattle.image_model.specs.Stands.{Stands, node_of, layout_in}
 use Rattle.image_model.specs.Walk.{is_used}
 use Rattle.image_model.proofs.Area.{no_faults as none_found}
@@ -24,16 +24,14 @@ use Rattle.image_model.proofs.HeldLaws.{tree_is_held}
 use Rattle.image_model.proofs.NodePlaces.{directory_pairs}
 use Rattle.image_model.proofs.SpaceLaws.{file_length, node_there}
 use Rattle.node_table.specs.Held.{info, info_of, slots_of}
-use Rattle.node_table.specs.declared.held.HeldNode.{HeldNode}
 use Rattle.node_table.specs.declared.held.HeldNode.TheVariants as held
 use Rattle.node_table.specs.declared.held.NodeInfo.TheVariants as infos
-use Rattle.point_model.specs.Holding.{HoldsNumbers, inode_before, width_in, slots_left, slot_now, slots_now, as_node, node_now}
+use Rattle.point_model.specs.Holding.{HoldsNumbers, inode_before, width_in, slot_now, slots_now, as_node, node_now}
 use Rattle.point_model.specs.NodeChanges.{CleanNodesAre}
 use Rattle.point_model.proofs.Nodes.{no_slots}
 use Rattle.point_model.proofs.StagedNodes.{slots_are}
 use Rattle.tree_model.specs.Path.{Path}
-use Rattle.tree_model.specs.Tree.{Tree, node_at}
-use Rattle.tree_model.specs.declared.node.Content.{Content}
+use Rattle.tree_model.specs.Tree.{node_at}
 use Rattle.tree_model.specs.declared.node.Content.TheVariants as content
 use Rattle.tree_model.specs.declared.node.Node.{Node}
 use Rattle.volume_model.specs.Machine.{Stored}
@@ -44,7 +42,7 @@ use Rattle.volume_model.specs.Machine.{Stored}
 abbrev left : List Block → ℕ → List Slot
 left old n = take (width_in (inode_before old n)) (slots_seen (seen old) n)
 
-clean_slots : (old : List Block) (n : ℕ) → slots_now old clean n ≡ left old n
+pub clean_slots : (old : List Block) (n : ℕ) → slots_now old clean n ≡ left old n
 clean_slots old n = slots_are (slot_now old clean n) (left old n) 0 _ (no_more (length (left old n))) (λ k lt. let e : 0 + k ≡ k = omega arith in ap (slot_at (left old n)) e)
   where
     no_more : (n : ℕ) → max n 0 ≡ n

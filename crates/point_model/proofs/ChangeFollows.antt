@@ -1,5 +1,5 @@
 -- The nodes of a table after a change, number by number.
-use Rattle.std.proofs.Common.{◌≡◌, ℕ, ◌<◌, ◌≤◌, Bool, true, false, cond, List, [], ◌∷◌, length, Some, None, refl, sym, ap, subst, ◌∙◌, arith}
+use Rattle.std.proofs.Common.{◌≡◌, ℕ, Bool, true, false, cond, List, [], ◌∷◌, length, Some, None, refl, sym, ap, subst, ◌∙◌, arith}
 use Rattle.std.specs.Prelude.{◌&&◌, ◌||◌, nat_eq, Option, is_some, slice_set, max, ◌+◌}
 use Rattle.std.proofs.lemmas.Bool.{eqb-true}
 use Rattle.std.proofs.lemmas.Bool.Decides.{nat_tests}
@@ -20,7 +20,7 @@ use Rattle.point_model.proofs.SlotsFollow.{SlotsFollow, untouched_follow, follow
 use Rattle.tree_model.specs.Path.{Path}
 use Rattle.tree_model.specs.declared.command.Command.{Command}
 use Rattle.tree_model.specs.declared.command.Command.TheVariants.{Mkdir, Create, Write, Truncate, Remove, Rename, Read, List as ListOf, Stat, Layout, Space, Checkpoint, End}
-use Rattle.volume_model.specs.Places.{Spot, has_spot}
+use Rattle.volume_model.specs.Places.{has_spot}
 
 -- ---- one number
 
@@ -101,7 +101,7 @@ one_slot old new parent slot before after was set f n = by (nat_eq n parent) ref
         subst (λ h. NodeFollows (held old n) h (λ k. at_one parent slot n k)) (sym (set_other old new parent (Some (Directory after)) set n is))
         (node_by (held old n) (held old n) (λ _. false) (λ k. at_one parent slot n k) (λ k. none_bool (nat_eq parent n) (nat_eq slot k) (turned n parent false is)) (node_stays (held old n)))
 
-gets_follow : (old new : Nodes) (parent slot number : ℕ) (name : List ℕ) → GetsEntry old parent slot number name new → (n : ℕ) → NodeFollows (held old n) (held new n) (λ k. has_spot ((parent, slot) ∷ []) (n, k))
+pub gets_follow : (old new : Nodes) (parent slot number : ℕ) (name : List ℕ) → GetsEntry old parent slot number name new → (n : ℕ) → NodeFollows (held old n) (held new n) (λ k. has_spot ((parent, slot) ∷ []) (n, k))
 gets_follow old new parent slot number name g =
     let slots = slots_of (held old parent) in
     one_slot old new parent slot slots (with_slot slots slot (slot_of_kind.Entry number name)) g.directory g.set
@@ -126,17 +126,21 @@ pub record ChangeFollows (change : Change) (before after : Nodes) : Type 0 where
   pub others : (n : ℕ) → nat_eq n (number_of change) ≡ false → NodeFollows (held before n) (held after n) (λ k. has_spot (slots_in change) (n, k))
   pub own : OwnFollows change before after
 
-made_follows : (path : Path) (fresh : HeldNode) (parent slot number : ℕ) (old new : Nodes) → slots_of (Some fresh) ≡ [] → Makes path fresh parent slot number old new → ChangeFollows (Made parent slot number) old new
-made_follows path fresh parent slot number old new empty m = record {
-  others = λ n other. subst (λ h. NodeFollows (held old n) h (λ k. at_one parent slot n k)) (sym (set_other m.between new number (Some fresh) m.node n other)) (gets_follow old m.between parent slot number m.name m.entry n);
-  own = (ap slots_of (set_here m.between new number (Some fresh) m.node) ∙ empty, by (nat_eq parent number) refl);
-}
+-- the directory of a new node isn't the node
+pub made_apart : (path : Path) (fresh : HeldNode) (parent slot number : ℕ) (old new : Nodes) → Makes path fresh parent slot number old new → nat_eq parent number ≡ false
+made_apart path fresh parent slot number old new m = by (nat_eq parent number) refl
   where
     by : (t : Bool) → nat_eq parent number ≡ t → nat_eq parent number ≡ false
     by false is = is
     by true is =
         let there : is_some (held old number) ≡ true = (λ i. is_some (held old (sym (eqb-true parent number is) i))) ∙ ap is_some m.entry.directory in
         let never : true ≡ false = sym there ∙ m.least.free in cc
+
+made_follows : (path : Path) (fresh : HeldNode) (parent slot number : ℕ) (old new : Nodes) → slots_of (Some fresh) ≡ [] → Makes path fresh parent slot number old new → ChangeFollows (Made parent slot number) old new
+made_follows path fresh parent slot number old new empty m = record {
+  others = λ n other. subst (λ h. NodeFollows (held old n) h (λ k. at_one parent slot n k)) (sym (set_other m.between new number (Some fresh) m.node n other)) (gets_follow old m.between parent slot number m.name m.entry n);
+  own = (ap slots_of (set_here m.between new number (Some fresh) m.node) ∙ empty, made_apart path fresh parent slot number old new m);
+}
 
 sized_follows : (path : Path) (size_after : ℕ → ℕ) (number size : ℕ) (old new : Nodes) → Sizes path size_after number size old new → ChangeFollows (Sized number size) old new
 sized_follows path size_after number size old new s = record {

@@ -1,6 +1,6 @@
 -- The pages of the directories of an image that stands for something.
-use Rattle.std.proofs.Common.{◌≡◌, ℕ, zero, suc, ◌+◌, ◌-◌, ◌*◌, ◌/◌, ◌<◌, ◌≤◌, Bool, true, false, not, cond, List, [], ◌∷◌, ◌++◌, map, length, take, drop, Some, None, refl, sym, ap, subst, ◌∙◌, arith, append_assoc}
-use Rattle.std.specs.Prelude.{◌==◌, ◌&&◌, ◌||◌, nat_eq, nat_lt, bytes_eq, count_by, Contains}
+use Rattle.std.proofs.Common.{◌≡◌, ℕ, zero, suc, ◌+◌, ◌-◌, ◌*◌, ◌<◌, ◌≤◌, Bool, true, false, not, cond, List, [], ◌∷◌, ◌++◌, map, length, take, drop, refl, sym, ap, subst, ◌∙◌, arith, append_assoc}
+use Rattle.std.specs.Prelude.{◌==◌, ◌&&◌, ◌||◌, nat_eq, bytes_eq, count_by, Contains}
 use Rattle.std.specs.List.{flat_map, list_all, AllByRecursion}
 use Rattle.std.proofs.lemmas.Bool.{eqb-true}
 use Rattle.std.proofs.lemmas.Bool.Decides.{nat_tests}
@@ -35,7 +35,7 @@ use Rattle.image_model.proofs.NodeWalk.{pairs_of_node, walk_good}
 use Rattle.image_model.proofs.SpaceLaws.{below_at, node_there}
 use Rattle.place_words.proofs.Rising.{rising_full}
 use Rattle.place_words.specs.Different.{is_among, span, Distinct}
-use Rattle.place_words.specs.Rising.{Rising, AllUnder}
+use Rattle.place_words.specs.Rising.{AllUnder}
 use Rattle.point_model.specs.OldPages.{PagesStand, DirectoriesStand}
 use Rattle.point_model.proofs.Spelled.{lt_true}
 

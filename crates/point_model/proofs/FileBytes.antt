@@ -1,37 +1,33 @@
 -- The bytes of files in an image in which a point is planned.
-use Rattle.std.proofs.Common.{◌≡◌, ℕ, zero, suc, ◌+◌, ◌-◌, ◌*◌, ◌/◌, ◌<◌, ◌≤◌, Bool, true, false, not, cond, List, [], ◌∷◌, ◌++◌, map, length, replicate, Some, None, inl, inr, refl, sym, ap, subst, ◌∙◌, arith, get_or}
-use Rattle.std.specs.Prelude.{◌==◌, ◌&&◌, ◌||◌, nat_eq, nat_lt, nat_le, Option}
+use Rattle.std.proofs.Common.{◌≡◌, ℕ, ◌+◌, ◌*◌, ◌<◌, ◌≤◌, Bool, true, false, cond, List, [], ◌∷◌, map, length, replicate, Some, None, refl, sym, ap, subst, ◌∙◌, arith, get_or}
+use Rattle.std.specs.Prelude.{◌&&◌, ◌||◌, nat_eq, nat_lt, nat_le}
 use Rattle.std.specs.FinMap.{find}
 use Rattle.std.proofs.lemmas.Bool.{eqb-true}
 use Rattle.std.proofs.lemmas.Bool.Decides.{nat_tests}
+use Rattle.std.proofs.lemmas.List.{take_at}
 use Rattle.vol_numbers.specs.Layout.{Layout, area_start, count_blocks}
 use Rattle.vol_numbers.specs.declared.block.Block.{Block}
-use Rattle.block_format.specs.Inode.{blocks_of, pointer_of}
 use Rattle.block_format.specs.declared.inode.Inode.{Inode}
-use Rattle.block_format.specs.declared.inode.Inode.TheVariants.{Unused, File, Directory}
+use Rattle.block_format.specs.declared.inode.Inode.TheVariants.{File}
 use Rattle.block_tree.specs.Tree.{blocks_in, block_below}
 use Rattle.dirty_store.specs.Entries.{Entries}
-use Rattle.dirty_store.specs.Laws.{dirty_spots}
 use Rattle.dirty_store.specs.Overlay.{Overlay}
 use Rattle.image_model.specs.Findings.{is_in_area}
 use Rattle.image_model.specs.Live.{IsLive, counted}
-use Rattle.image_model.specs.Met.{Met, files, metas, pointers_to, NoFaults}
-use Rattle.image_model.specs.Planned.{height_in}
+use Rattle.image_model.specs.Met.{files, pointers_to, NoFaults}
 use Rattle.image_model.specs.Seen.{seen}
 use Rattle.image_model.specs.Standing.{some_block, file_block, as_block, FileStands, PlaceStands}
-use Rattle.image_model.specs.Stands.{layout_in, spot_of}
+use Rattle.image_model.specs.Stands.{layout_in}
 use Rattle.image_model.proofs.Area.{files_within, split_none, no_faults as none_found}
 use Rattle.image_model.proofs.Kept.{bytes_same}
-use Rattle.place_words.specs.Different.{is_among, times, AllWithin}
+use Rattle.place_words.specs.Different.{is_among, AllWithin}
 use Rattle.place_words.proofs.Counting.{among_times}
 use Rattle.point_model.specs.Laws.{MayTake, IsPlannedFor}
 use Rattle.point_model.specs.NodePlan.{block_of_place}
 use Rattle.point_model.proofs.FilePlaces.{file_places}
-use Rattle.point_model.proofs.OldBytes.{block_whole}
 use Rattle.point_model.proofs.Placed.{Comes, old as of_old, new as of_new, comes}
 use Rattle.point_model.proofs.Places.{all_file_blocks}
 use Rattle.state_laws.specs.Files.{zero_block}
-use Rattle.state_laws.specs.States.{is_held}
 use Rattle.state_laws.proofs.Bytes.{block_length}
 use Rattle.state_laws.proofs.FilesNumbered.{HasFile, file_block as bytes_of_file}
 use Rattle.state_laws.proofs.HeldBytes.{block_spot, held_is}
@@ -41,6 +37,10 @@ use Rattle.volume_model.specs.Machine.{Machine, Rules, block_at, bytes_numbered,
 use Rattle.volume_model.specs.Places.{Spot, Places, spot_cmp, spot_eq, has_spot, spots_of, blocks_of as blocks_in_places, is_block}
 use Rattle.volume_model.specs.Point.{placed_after, fresh_in}
 use Rattle.volume_model.proofs.PlacesTold.{tie_is}
+
+-- a block of 4,096 bytes is its first 4,096 bytes
+pub block_whole : (bytes : List ℕ) → length bytes ≡ 4096 → as_block bytes ≡ bytes
+block_whole bytes long = take_at bytes (replicate 4096 0) 4096 long
 
 -- ---- spots that are found, or not
 

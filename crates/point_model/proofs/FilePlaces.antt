@@ -1,20 +1,19 @@
 -- The places of files in an image in which a point is planned.
-use Rattle.std.proofs.Common.{◌≡◌, ℕ, zero, suc, ◌+◌, ◌-◌, ◌*◌, ◌/◌, ◌<◌, ◌≤◌, Bool, true, false, not, cond, List, [], ◌∷◌, ◌++◌, map, length, Some, None, inl, inr, refl, sym, ap, subst, ◌∙◌, arith}
-use Rattle.std.specs.Prelude.{◌==◌, ◌&&◌, ◌||◌, ◌⊎◌, nat_eq, nat_lt, nat_le, Option, option_map}
+use Rattle.std.proofs.Common.{◌≡◌, ℕ, ◌<◌, ◌≤◌, Bool, true, false, not, cond, List, map, length, Some, None, inl, inr, refl, sym, ap, subst, ◌∙◌, arith}
+use Rattle.std.specs.Prelude.{◌==◌, ◌||◌, ◌⊎◌, nat_lt, nat_le, Option, option_map}
 use Rattle.std.specs.FinMap.{find}
 use Rattle.std.proofs.lemmas.Bool.Decides.{nat_tests}
 use Rattle.vol_numbers.specs.Layout.{Layout, area_start}
 use Rattle.vol_numbers.specs.declared.block.Block.{Block}
-use Rattle.vol_numbers.specs.declared.runs.Change.{Change}
 use Rattle.block_format.specs.Inode.{blocks_of, pointer_of, inode_shape}
 use Rattle.block_format.specs.declared.inode.Inode.{Inode}
 use Rattle.block_format.specs.declared.inode.Inode.TheVariants.{Unused, File, Directory}
 use Rattle.block_tree.specs.Edit.{changed_at, cut_at}
-use Rattle.block_tree.specs.Tree.{Blocks, blocks_in, block_in, block_below, pairs_below}
+use Rattle.block_tree.specs.Tree.{blocks_in, pairs_below}
 use Rattle.block_tree.proofs.Pairs.{pairs_are}
 use Rattle.dirty_store.specs.Overlay.{Overlay, node_of, least_cut}
 use Rattle.image_model.specs.Met.{files, NoFaults}
-use Rattle.image_model.specs.Nodes.{AllBelow, blocks_in_node}
+use Rattle.image_model.specs.Nodes.{blocks_in_node}
 use Rattle.image_model.specs.Planned.{height_in}
 use Rattle.image_model.specs.Seen.{seen}
 use Rattle.image_model.specs.Slots.{inode_of}
@@ -23,10 +22,10 @@ use Rattle.image_model.specs.Stands.{spot_of, layout_in}
 use Rattle.image_model.proofs.Area.{no_faults as none_found, files_within}
 use Rattle.image_model.proofs.FileLaws.{places_are_seen}
 use Rattle.image_model.proofs.NextLaws.{point_places}
-use Rattle.node_table.specs.Held.{info, info_of}
+use Rattle.node_table.specs.Held.{info}
 use Rattle.node_table.specs.declared.held.NodeInfo.TheVariants as infos
-use Rattle.place_words.specs.Different.{is_among, up}
-use Rattle.point_model.specs.Holding.{inode_before, inode_now, node_now, as_node, slots_now, is_changed, kind_of}
+use Rattle.place_words.specs.Different.{is_among}
+use Rattle.point_model.specs.Holding.{inode_before, inode_now, node_now, as_node, slots_now, kind_of}
 use Rattle.point_model.specs.Laws.{MayTake, IsPlannedFor}
 use Rattle.point_model.specs.NodePlan.{block_of_place, AreOfPlaces}
 use Rattle.point_model.specs.PointPlan.{ContentIsPlanned, told}
@@ -34,13 +33,11 @@ use Rattle.point_model.proofs.Numbers.{node_of_path, told_file}
 use Rattle.point_model.proofs.Placed.{Comes, old as of_old, new as of_new, comes, in_file}
 use Rattle.point_model.proofs.Places.{no_file, no_places, all_file_blocks, among_within, not_zero, past_none}
 use Rattle.point_model.proofs.Spelled.{no_faults, inodes_new, lt_true, lt_false}
-use Rattle.state_laws.specs.Files.{HasPlace}
 use Rattle.state_laws.proofs.HeldBytes.{block_spot}
-use Rattle.tree_model.specs.Tree.{node_at}
 use Rattle.tree_model.specs.declared.node.Content.TheVariants as content_of
 use Rattle.tree_model.specs.declared.report.Report.{Report}
 use Rattle.volume_model.specs.Machine.{Machine, Rules, stored}
-use Rattle.volume_model.specs.Places.{Spot, Places, spot_cmp, has_spot, spots_of, blocks_of as blocks_in_places, is_block}
+use Rattle.volume_model.specs.Places.{Spot, Places, spot_cmp, has_spot, blocks_of as blocks_in_places, is_block}
 use Rattle.volume_model.specs.Point.{placed_after, fresh_in}
 use Rattle.volume_model.proofs.LineLaws.{fresh_are_unused}
 use Rattle.volume_model.proofs.Order.{first_of}

@@ -1,12 +1,11 @@
 -- The pages that a point keeps spell the slots now, and their blocks are live.
-use Rattle.std.proofs.Common.{◌≡◌, ℕ, zero, suc, ◌+◌, ◌-◌, ◌*◌, ◌/◌, ◌<◌, ◌≤◌, Bool, true, false, not, cond, List, [], ◌∷◌, ◌++◌, length, take, Some, None, refl, sym, ap, subst, ◌∙◌, arith, get_or}
+use Rattle.std.proofs.Common.{◌≡◌, ℕ, ◌+◌, ◌<◌, ◌≤◌, Bool, true, false, not, cond, List, [], length, take, Some, refl, sym, ap, subst, ◌∙◌, arith}
 use Rattle.std.specs.Prelude.{◌==◌, ◌&&◌, nat_lt}
-use Rattle.vol_numbers.specs.Layout.{Layout, area_start, count_blocks}
 use Rattle.vol_numbers.specs.declared.block.Block.{Block}
 use Rattle.block_format.specs.declared.inode.Inode.{Inode}
 use Rattle.block_format.specs.declared.inode.Inode.TheVariants.{Unused, File, Directory}
 use Rattle.block_format.specs.declared.slot.Slot.{Slot}
-use Rattle.block_tree.specs.Tree.{blocks_in, block_below}
+use Rattle.block_tree.specs.Tree.{blocks_in}
 use Rattle.dir_slots.specs.Pages.{IsPage, pages_for}
 use Rattle.dirty_store.specs.Overlay.{Overlay, node_of, least_cut}
 use Rattle.image_model.specs.Findings.{is_in_area}
@@ -18,7 +17,7 @@ use Rattle.point_model.specs.OldPages.{PagesStand, DirectoriesStand}
 use Rattle.image_model.specs.Stands.{layout_in}
 use Rattle.image_model.specs.Sound.{IsSound}
 use Rattle.image_model.proofs.Area.{no_faults as none_found, split_none, files_within, metas_within, not_among_times}
-use Rattle.place_words.specs.Different.{is_among, times, total, span}
+use Rattle.place_words.specs.Different.{is_among, times}
 use Rattle.point_model.specs.Holding.{inode_before, inode_now, slots_left, slots_now, width_in, kind_of}
 use Rattle.point_model.specs.Laws.{MayTake, IsPlannedFor}
 use Rattle.point_model.specs.NodePlan.{block_of_place, node_pointers, is_kept_page, is_staged_page}

@@ -6,7 +6,6 @@ mod Places
 mod FilePlaces
 mod FileBytes
 mod Nodes
-mod OldBytes
 mod OldPages
 mod KeptPages
 mod DirectoriesStand
@@ -17,3 +16,6 @@ mod SlotsFollow
 mod ChangeFollows
 mod StagedNodes
 mod AtRest
+mod FreshPoint
+mod BuiltEffects
+mod SwitchedRoot

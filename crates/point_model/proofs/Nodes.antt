@@ -1,12 +1,11 @@
 -- The nodes that are seen in an image in which a point is planned.
-use Rattle.std.proofs.Common.{◌≡◌, ℕ, zero, suc, ◌+◌, ◌-◌, ◌*◌, ◌/◌, ◌<◌, ◌≤◌, Bool, true, false, not, cond, List, [], ◌∷◌, ◌++◌, map, length, Some, None, inl, inr, refl, sym, ap, subst, ◌∙◌, arith, slice_index_or}
-use Rattle.std.specs.Prelude.{◌==◌, ◌&&◌, ◌||◌, nat_eq, Option, option_map, Contains, count_by, is_some}
+use Rattle.std.proofs.Common.{◌≡◌, ℕ, zero, suc, ◌<◌, Bool, true, false, cond, List, [], ◌∷◌, ◌++◌, map, length, Some, refl, sym, ap, subst, ◌∙◌, arith, slice_index_or}
+use Rattle.std.specs.Prelude.{◌==◌, ◌||◌, nat_eq, option_map, Contains, count_by}
 use Rattle.std.specs.List.{flat_map}
 use Rattle.std.proofs.lemmas.Bool.{eqb-true}
 use Rattle.std.proofs.lemmas.Bool.Decides.{nat_tests}
 use Rattle.vol_numbers.specs.declared.block.Block.{Block}
 use Rattle.root_switch.specs.Current.{root_of_image}
-use Rattle.block_format.specs.Inode.{pointer_of}
 use Rattle.block_format.specs.declared.inode.Inode.{Inode}
 use Rattle.block_format.specs.declared.inode.Inode.TheVariants.{Unused, File, Directory}
 use Rattle.block_format.specs.declared.slot.Slot.{Slot}
@@ -18,9 +17,9 @@ use Rattle.image_model.specs.Holds.{HoldsTree}
 use Rattle.image_model.specs.Live.{IsLive}
 use Rattle.image_model.specs.Met.{Met, index, NoFaults}
 use Rattle.image_model.specs.Nodes.{has_tail, is_bad_directory}
-use Rattle.image_model.specs.Planned.{node_trees, height_in}
-use Rattle.image_model.specs.Seen.{SeenBlock, Seen, seen, all_held, page_held}
-use Rattle.image_model.specs.Slots.{inode_of, slots_of, slot_pieces}
+use Rattle.image_model.specs.Planned.{node_trees}
+use Rattle.image_model.specs.Seen.{seen, all_held, page_held}
+use Rattle.image_model.specs.Slots.{inode_of, slots_of}
 use Rattle.image_model.specs.Standing.{as_block, DirectoryStands}
 use Rattle.image_model.specs.Stands.{node_of}
 use Rattle.image_model.specs.Walk.{is_used, nodes_at}
@@ -31,7 +30,6 @@ use Rattle.image_model.proofs.Naming.{no_pieces}
 use Rattle.image_model.proofs.NodePlaces.{numbers, numbers_distinct, pages_at, directory_pairs, is_of}
 use Rattle.image_model.proofs.NodeWalk.{walk_good}
 use Rattle.node_table.specs.Held.{info, info_of, slots_of as slots_held}
-use Rattle.node_table.specs.declared.held.HeldNode.{HeldNode}
 use Rattle.node_table.specs.declared.held.HeldNode.TheVariants as held
 use Rattle.node_table.specs.declared.held.NodeInfo.TheVariants as infos
 use Rattle.place_words.specs.Different.{is_among, Distinct}
@@ -44,7 +42,7 @@ use Rattle.point_model.proofs.Numbers.{HasNode, node_of_path, node_of_number, to
 use Rattle.point_model.proofs.Spelled.{no_faults, inodes_new}
 use Rattle.state_laws.proofs.FilesNumbered.{HasFile}
 use Rattle.tree_model.specs.Path.{Path}
-use Rattle.tree_model.specs.Tree.{Tree, node_at}
+use Rattle.tree_model.specs.Tree.{node_at}
 use Rattle.tree_model.specs.declared.node.Content.{Content}
 use Rattle.tree_model.specs.declared.node.Content.TheVariants as content_of
 use Rattle.tree_model.specs.declared.node.Node.{Node}

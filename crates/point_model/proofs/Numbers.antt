@@ -1,21 +1,18 @@
 -- What is planned of a number and the node of the tree that has it.
-use Rattle.std.proofs.Common.{◌≡◌, ℕ, suc, ◌+◌, ◌<◌, ◌≤◌, Bool, true, false, cond, List, [], ◌∷◌, ◌++◌, Some, None, refl, sym, ap, subst, ◌∙◌, arith}
+use Rattle.std.proofs.Common.{◌≡◌, ℕ, ◌≤◌, Bool, true, false, [], Some, None, refl, sym, ap, subst, ◌∙◌, arith}
 use Rattle.std.specs.Prelude.{Option, option_map, is_some}
-use Rattle.vol_numbers.specs.declared.block.Block.{Block}
 use Rattle.block_format.specs.Inode.{pointer_of}
 use Rattle.block_format.specs.declared.inode.Inode.{Inode}
 use Rattle.block_format.specs.declared.inode.Inode.TheVariants.{Unused, File, Directory}
-use Rattle.dirty_store.specs.Overlay.{Overlay}
 use Rattle.image_model.specs.Planned.{height_in}
 use Rattle.image_model.specs.Walk.{is_used, is_directory}
 use Rattle.node_table.specs.Held.{info, info_of}
 use Rattle.node_table.specs.declared.held.HeldNode.{HeldNode}
-use Rattle.node_table.specs.declared.held.NodeInfo.{NodeInfo}
 use Rattle.node_table.specs.declared.held.NodeInfo.TheVariants as infos
-use Rattle.point_model.specs.Holding.{HoldsNumbers, node_now}
+use Rattle.point_model.specs.Holding.{HoldsNumbers}
 use Rattle.point_model.specs.PointPlan.{told}
 use Rattle.tree_model.specs.Path.{Path}
-use Rattle.tree_model.specs.Shape.{IsTree, shape_of, shape_at}
+use Rattle.tree_model.specs.Shape.{IsTree, shape_of}
 use Rattle.tree_model.specs.Tree.{Tree, node_at, is_directory as is_directory_node}
 use Rattle.tree_model.specs.declared.node.Content.{Content}
 use Rattle.tree_model.specs.declared.node.Content.TheVariants as content

@@ -1,16 +1,14 @@
 -- The pages of directories that a point keeps.
-use Rattle.std.proofs.Common.{◌≡◌, ℕ, zero, suc, ◌+◌, ◌-◌, ◌*◌, ◌/◌, ◌<◌, ◌≤◌, Bool, true, false, not, cond, List, [], ◌∷◌, ◌++◌, map, length, take, Some, None, refl, sym, ap, subst, ◌∙◌, arith, slice_index_or, get_or}
-use Rattle.std.specs.Prelude.{◌==◌, ◌&&◌, ◌||◌, nat_eq, nat_lt, max, Option}
+use Rattle.std.proofs.Common.{◌≡◌, ℕ, zero, suc, ◌+◌, ◌*◌, ◌/◌, ◌<◌, ◌≤◌, Bool, true, false, cond, List, [], ◌∷◌, ◌++◌, map, length, Some, None, refl, sym, ap, subst, ◌∙◌, arith}
+use Rattle.std.specs.Prelude.{◌==◌, ◌&&◌, ◌||◌, nat_eq, nat_lt, max}
 use Rattle.std.specs.FinMap.{find}
 use Rattle.std.specs.List.{list_any}
 use Rattle.std.proofs.lemmas.Bool.{eqb-true}
 use Rattle.std.proofs.lemmas.Bool.Decides.{nat_tests}
-use Rattle.vol_numbers.specs.Layout.{Layout, area_start, count_blocks}
 use Rattle.vol_numbers.specs.declared.block.Block.{Block}
 use Rattle.block_format.specs.Inode.{pointer_of}
-use Rattle.block_format.specs.Slot.{slot_part, slot_bytes}
+use Rattle.block_format.specs.Slot.{slot_bytes}
 use Rattle.block_format.specs.declared.inode.Inode.{Inode}
-use Rattle.block_format.specs.declared.inode.Inode.TheVariants.{Unused, File, Directory}
 use Rattle.block_format.specs.declared.slot.Slot.{Slot}
 use Rattle.block_format.specs.declared.slot.Slot.TheVariants as slots
 use Rattle.block_tree.specs.Tree.{blocks_in, block_in, block_below, pairs_below, indexes_below}
@@ -18,23 +16,15 @@ use Rattle.block_tree.proofs.Pairs.{pairs_are}
 use Rattle.dir_slots.specs.Pages.{IsPage, pages_for}
 use Rattle.dir_slots.specs.Slots.{slot_at}
 use Rattle.dirty_store.specs.Entries.{Entries}
-use Rattle.dirty_store.specs.Overlay.{Overlay, node_of, least_cut, width_of}
-use Rattle.image_model.specs.Findings.{is_in_area}
-use Rattle.image_model.specs.Live.{IsLive, counted}
-use Rattle.image_model.specs.Met.{metas, files, pointers_to}
+use Rattle.dirty_store.specs.Overlay.{Overlay, width_of}
 use Rattle.image_model.specs.Planned.{height_in}
-use Rattle.image_model.specs.Seen.{seen}
-use Rattle.image_model.specs.Slots.{slots_of as slots_seen}
-use Rattle.image_model.specs.Stands.{layout_in}
-use Rattle.image_model.proofs.Area.{no_faults as none_found, split_none, files_within}
 use Rattle.place_words.specs.Different.{is_among, times, span, total}
 use Rattle.place_words.proofs.Counting.{among_times}
-use Rattle.point_model.specs.Holding.{inode_before, slots_left, slot_now, slot_or, slots_from, slots_now, width_now, width_in}
+use Rattle.point_model.specs.Holding.{slots_left, slot_now, slot_or, slots_from, slots_now, width_now}
 use Rattle.point_model.specs.OldPages.{PagesStand}
-use Rattle.point_model.specs.NodePlan.{block_of_place, node_pointers, is_kept_page, is_staged_page}
-use Rattle.point_model.proofs.FileBytes.{in_area, area_counted}
+use Rattle.point_model.specs.NodePlan.{block_of_place, node_pointers, is_staged_page}
 use Rattle.point_model.proofs.Spelled.{lt_true, lt_false}
-use Rattle.volume_model.specs.Places.{Spot, spot_cmp, spot_eq}
+use Rattle.volume_model.specs.Places.{spot_cmp, spot_eq}
 use Rattle.volume_model.proofs.PlacesTold.{tie_is}
 
 -- ---- slots that aren't staged

@@ -1,11 +1,9 @@
 -- The places after a point, and the blocks that they have.
-use Rattle.std.proofs.Common.{◌≡◌, ℕ, zero, suc, ◌+◌, ◌*◌, ◌<◌, ◌≤◌, Bool, true, false, not, cond, List, [], ◌∷◌, ◌++◌, map, length, Some, None, refl, sym, ap, subst, ◌∙◌, arith}
-use Rattle.std.specs.Prelude.{◌&&◌, ◌||◌, ◌⊎◌, nat_eq, nat_lt, Option}
+use Rattle.std.proofs.Common.{◌≡◌, ℕ, true, not, List, [], ◌∷◌, Some, None, refl, sym, ap, subst, ◌∙◌}
+use Rattle.std.specs.Prelude.{Option}
 use Rattle.std.specs.FinMap.{find}
-use Rattle.std.proofs.lemmas.Bool.Decides.{nat_tests}
-use Rattle.place_words.specs.Different.{is_among, AllWithin}
-use Rattle.point_model.proofs.Spelled.{lt_true}
-use Rattle.state_laws.specs.States.{IsCoherent, is_held}
+use Rattle.place_words.specs.Different.{is_among}
+use Rattle.state_laws.specs.States.{IsCoherent}
 use Rattle.state_laws.specs.Files.{HasPlace}
 use Rattle.state_laws.proofs.HeldBytes.{AllEntries, found_entry, found_spot, held_is}
 use Rattle.state_laws.proofs.PointBytes.{after_held, held_after}
@@ -13,8 +11,8 @@ use Rattle.tree_model.specs.declared.report.Report.{Report}
 use Rattle.volume_model.specs.Cache.{is_cached}
 use Rattle.volume_model.specs.Lines.{lines_places}
 use Rattle.volume_model.specs.Machine.{Machine, Rules, block_at, held}
-use Rattle.volume_model.specs.Places.{Spot, Places, spot_cmp, has_spot, spots_of, blocks_of, is_block}
-use Rattle.volume_model.specs.Point.{share_lines, fresh_spots, placed_at, placed_after, fresh_in}
+use Rattle.volume_model.specs.Places.{Spot, Places, spot_cmp, has_spot, spots_of, is_block}
+use Rattle.volume_model.specs.Point.{share_lines, fresh_spots, placed_after, fresh_in}
 use Rattle.volume_model.specs.ReportLaws.{IsReport, fresh_places}
 use Rattle.volume_model.proofs.Cached.{found_block}
 use Rattle.volume_model.proofs.LineLaws.{placed_blocks}

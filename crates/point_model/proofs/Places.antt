@@ -1,52 +1,28 @@
 -- The places that are seen in an image in which a point is planned.
-use Rattle.std.proofs.Common.{◌≡◌, ℕ, zero, suc, ◌+◌, ◌-◌, ◌*◌, ◌/◌, ◌<◌, ◌≤◌, Bool, true, false, not, cond, List, [], ◌∷◌, ◌++◌, map, length, Some, None, inl, inr, refl, sym, ap, subst, ◌∙◌, arith}
-use Rattle.std.specs.Prelude.{◌==◌, ◌&&◌, ◌||◌, ◌⊎◌, nat_eq, nat_lt, nat_le, Option, option_map}
+use Rattle.std.proofs.Common.{◌≡◌, ℕ, ◌<◌, ◌≤◌, Bool, true, false, not, cond, List, [], ◌∷◌, ◌++◌, map, None, refl, sym, ap, subst, ◌∙◌, arith}
+use Rattle.std.specs.Prelude.{◌==◌, ◌&&◌, ◌||◌, nat_eq}
 use Rattle.std.specs.FinMap.{find}
 use Rattle.std.specs.List.{flat_map}
 use Rattle.std.proofs.lemmas.Bool.{eqb-true}
 use Rattle.std.proofs.lemmas.Bool.Decides.{nat_tests}
 use Rattle.std.proofs.lemmas.List.Concat.{flat_map-cons}
-use Rattle.vol_numbers.specs.Layout.{Layout, area_start}
 use Rattle.vol_numbers.specs.declared.block.Block.{Block}
 use Rattle.root_switch.specs.Current.{root_of_image}
-use Rattle.block_format.specs.Inode.{blocks_of, pointer_of}
 use Rattle.block_format.specs.declared.inode.Inode.{Inode}
 use Rattle.block_format.specs.declared.inode.Inode.TheVariants.{Unused, File, Directory}
-use Rattle.block_tree.specs.Edit.{changed_at, cut_at}
-use Rattle.block_tree.specs.Tree.{Blocks, blocks_in, block_in, block_below, pairs_below, index_at, nonzero}
-use Rattle.block_tree.proofs.Pairs.{pairs_are}
-use Rattle.dirty_store.specs.Overlay.{Overlay, node_of, least_cut}
+use Rattle.block_tree.specs.Tree.{Blocks, blocks_in, block_in, pairs_below}
 use Rattle.image_model.specs.Met.{Met, index, page, content, past, empty, not_inode, stray, files, NoFaults}
 use Rattle.image_model.specs.Nodes.{AllBelow}
-use Rattle.image_model.specs.Seen.{SeenBlock, seen, all_held, content_held}
+use Rattle.image_model.specs.Seen.{seen, all_held, content_held}
 use Rattle.image_model.specs.Slots.{inode_of}
-use Rattle.image_model.specs.Standing.{some_block}
-use Rattle.image_model.specs.Stands.{spot_of, layout_in}
+use Rattle.image_model.specs.Stands.{spot_of}
 use Rattle.image_model.specs.Walk.{nodes_at}
-use Rattle.image_model.proofs.Area.{no_faults as none_found, files_within}
-use Rattle.image_model.proofs.FileLaws.{places_are_seen}
 use Rattle.image_model.proofs.NodePlaces.{node_spots, spots_are, numbers, numbers_distinct}
 use Rattle.image_model.proofs.NodeWalk.{walk_good}
-use Rattle.node_table.specs.Held.{info_of}
-use Rattle.node_table.specs.declared.held.NodeInfo.TheVariants as infos
-use Rattle.place_words.specs.Different.{is_among, up, AllWithin, Distinct}
-use Rattle.point_model.specs.Holding.{inode_before, inode_now, node_now, is_changed, kind_of}
-use Rattle.point_model.specs.Laws.{MayTake, IsPlannedFor}
-use Rattle.point_model.specs.NodePlan.{block_of_place, AreOfPlaces}
-use Rattle.point_model.specs.PointPlan.{ContentIsPlanned, told}
-use Rattle.point_model.proofs.Numbers.{node_of_path, told_file}
-use Rattle.point_model.proofs.Placed.{Comes, comes, in_file}
-use Rattle.point_model.proofs.Spelled.{no_faults, inodes_new, lt_true, lt_false}
-use Rattle.state_laws.specs.Files.{HasPlace}
-use Rattle.tree_model.specs.Tree.{node_at}
-use Rattle.tree_model.specs.declared.node.Content.TheVariants as content_of
-use Rattle.tree_model.specs.declared.report.Report.{Report}
-use Rattle.volume_model.specs.Machine.{Machine, Rules}
-use Rattle.volume_model.specs.Places.{Spot, Places, spot_cmp, has_spot, spots_of, blocks_of as blocks_in_places, is_block}
-use Rattle.volume_model.specs.Point.{placed_after, fresh_in}
-use Rattle.volume_model.proofs.Cached.{found_block}
-use Rattle.volume_model.proofs.LineLaws.{fresh_are_unused}
-use Rattle.volume_model.proofs.PlacesTold.{find_none, places_are_told}
+use Rattle.place_words.specs.Different.{is_among, AllWithin, Distinct}
+use Rattle.point_model.proofs.Spelled.{lt_true}
+use Rattle.volume_model.specs.Places.{Spot, Places, spot_cmp, has_spot, spots_of, blocks_of as blocks_in_places}
+use Rattle.volume_model.proofs.PlacesTold.{find_none}
 
 -- ---- the places of a number that is no file's
 

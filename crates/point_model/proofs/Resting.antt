@@ -1,11 +1,11 @@
 -- A volume just after a point.
-use Rattle.std.proofs.Common.{◌≡◌, ℕ, ◌<◌, ◌≤◌, ◌+◌, ◌-◌, ◌/◌, Bool, true, false, cond, List, [], length, Some, None, inl, refl, sym, ap, arith}
+use Rattle.std.proofs.Common.{◌≡◌, ℕ, ◌<◌, ◌≤◌, ◌+◌, ◌-◌, ◌/◌, Bool, true, false, cond, length, Some, None, inl, refl, arith}
 use Rattle.std.specs.Prelude.{nat_le, Option}
 use Rattle.std.specs.FinMap.{find}
 use Rattle.std.proofs.lemmas.Bool.Decides.{nat_tests}
+use Rattle.image_states.proofs.Mountable.{standing_is_mountable}
 use Rattle.point_model.specs.Staging.{AtRest}
 use Rattle.point_model.proofs.AtRest.{nodes_at_rest}
-use Rattle.state_laws.specs.Files.{HasPlace}
 use Rattle.state_laws.specs.States.{IsMountable}
 use Rattle.state_laws.proofs.HeldBytes.{found_spot}
 use Rattle.volume_model.specs.Machine.{Stored}
@@ -33,11 +33,11 @@ module _ (s : Stored) (mountable : IsMountable s) where
       by true far (Some block) is = absurd (omega (arith, near spot block is, le_true 1048576 spot.1 far))
 
 pub at_rest : AtRest
-at_rest old s cache stands mountable = record {
+at_rest old s cache stands = record {
   in_order = record { blocks = record { in_order = refl; within = tt }; nodes = refl; slots = record { in_order = refl; within = tt } };
   dirty = refl;
   bytes = λ spot block found. cc;
-  kept = kept s mountable;
+  kept = kept s (standing_is_mountable old s stands);
   nodes = nodes_at_rest old s stands;
   renewed = λ n. inl refl;
 }

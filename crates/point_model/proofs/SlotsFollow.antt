@@ -1,9 +1,9 @@
 -- Slots of directories after some of them were touched.
-use Rattle.std.proofs.Common.{◌≡◌, ◌≢◌, ℕ, zero, suc, ◌+◌, ◌<◌, ◌≤◌, Bool, true, false, cond, List, [], ◌∷◌, ◌++◌, length, Some, None, inl, inr, refl, sym, ap, subst, ◌∙◌, arith, length-set, length-append}
+use Rattle.std.proofs.Common.{◌≡◌, ◌≢◌, ℕ, suc, ◌+◌, ◌-◌, ◌<◌, ◌≤◌, Bool, true, false, cond, List, [], ◌∷◌, ◌++◌, length, Some, None, inl, inr, refl, sym, ap, subst, ◌∙◌, arith, length-set, length-append}
 use Rattle.std.specs.Prelude.{◌||◌, ◌⊎◌, nat_eq, nat_lt, bytes_eq, slice_set, Option, option_map}
 use Rattle.std.proofs.lemmas.Bool.{eqb-true}
 use Rattle.std.proofs.lemmas.Bool.Decides.{nat_tests}
-use Rattle.std.proofs.lemmas.List.{get_or-set_other, get_or_append_left, get_or_past}
+use Rattle.std.proofs.lemmas.List.{get_or-set_same, get_or-set_other, get_or_append_left, get_or-append_right, get_or_past}
 use Rattle.block_format.specs.declared.slot.Slot.{Slot}
 use Rattle.block_format.specs.declared.slot.Slot.TheVariants.{Unused, Entry}
 use Rattle.dir_slots.specs.Slots.{slot_at, slot_of, first_unused, with_slot}
@@ -107,6 +107,20 @@ put_follow slots i slot le = by (nat_lt i (length slots)) refl
         let ge : length slots ≤ i = grind (arith, nat_tests) in
         let e : length slots ≡ i = omega (arith, ge, le) in
         subst (λ (j : ℕ). SlotsFollow slots (slots ++ slot ∷ []) (λ k. nat_eq j k)) e (push_follow slots slot)
+
+-- what is put stands there
+pub put_here : (slots : List Slot) (i : ℕ) (slot : Slot) → i ≤ length slots → slot_at (with_slot slots i slot) i ≡ slot
+put_here slots i slot le = by (nat_lt i (length slots)) refl
+  where
+    by : (t : Bool) → nat_lt i (length slots) ≡ t → slot_at (cond t (slice_set slots i slot) (slots ++ slot ∷ [])) i ≡ slot
+    by true is = let lt : i < length slots = grind (arith, nat_tests) in get_or-set_same slots i slot Unused lt
+    by false is =
+        let ge : length slots ≤ i = grind (arith, nat_tests) in
+        let at : i - length slots ≡ 0 = omega (arith, ge, le) in
+        get_or-append_right slots (slot ∷ []) (length slots) i Unused refl ge ∙ ap (slot_at (slot ∷ [])) at
+
+pub set_here : (slots : List Slot) (i : ℕ) (slot : Slot) → i < length slots → slot_at (slice_set slots i slot) i ≡ slot
+set_here slots i slot lt = get_or-set_same slots i slot Unused lt
 
 pub first_within : (slots : List Slot) → first_unused slots ≤ length slots
 first_within [] = omega arith

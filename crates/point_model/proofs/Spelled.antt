@@ -1,5 +1,5 @@
 -- The inodes, index blocks and metadata of an image in which a point is planned.
-use Rattle.std.proofs.Common.{◌≡◌, ℕ, suc, ◌+◌, ◌*◌, ◌<◌, ◌≤◌, Bool, true, false, cond, List, [], ◌∷◌, ◌++◌, Some, None, refl, sym, ap, subst, ◌∙◌, arith}
+use Rattle.std.proofs.Common.{◌≡◌, ℕ, ◌+◌, ◌<◌, ◌≤◌, Bool, true, false, List, refl, sym, ◌∙◌, arith}
 use Rattle.std.specs.Prelude.{nat_lt}
 use Rattle.std.proofs.lemmas.Bool.Decides.{nat_tests}
 use Rattle.vol_numbers.specs.declared.block.Block.{Block}
@@ -9,17 +9,17 @@ use Rattle.block_format.specs.declared.inode.Inode.TheVariants.{Unused, File, Di
 use Rattle.block_tree.specs.Tree.{blocks_in}
 use Rattle.dirty_store.specs.Overlay.{Overlay}
 use Rattle.image_model.specs.Met.{metas, NoFaults}
-use Rattle.image_model.specs.Plan.{IsPlanned, inode_pointers, taken_in}
+use Rattle.image_model.specs.Plan.{IsPlanned, taken_in}
 use Rattle.image_model.specs.Planned.{IsSpelled}
 use Rattle.image_model.specs.Seen.{seen}
 use Rattle.image_model.specs.Slots.{inode_of}
-use Rattle.image_model.specs.Walk.{is_used, nodes_at, is_directory}
+use Rattle.image_model.specs.Walk.{is_used, nodes_at}
 use Rattle.image_model.proofs.InodesSeen.{inodes_are_seen}
 use Rattle.image_model.proofs.NodePlaces.{numbers, nodes_used, used_among}
 use Rattle.image_model.proofs.NodeWalk.{walk_good}
 use Rattle.image_model.proofs.PlanLaws.{nodes_limits, plan_leads}
 use Rattle.place_words.specs.Different.{is_among, times}
-use Rattle.point_model.specs.Holding.{inode_before, node_now}
+use Rattle.point_model.specs.Holding.{node_now}
 use Rattle.point_model.specs.Laws.{MayTake, IsPlannedFor}
 use Rattle.point_model.proofs.Numbers.{root_directory, unused_above}
 use Rattle.tree_model.specs.declared.report.Report.{Report}

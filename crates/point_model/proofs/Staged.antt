@@ -1,14 +1,13 @@
 -- Staging the effect of an accepted command.
-use Rattle.std.proofs.Common.{◌≡◌, ℕ, zero, suc, ◌+◌, ◌<◌, ◌≤◌, Bool, true, false, not, cond, List, [], ◌∷◌, ◌++◌, map, filter, Some, None, inl, inr, refl, sym, ap, subst, ◌∙◌, arith}
-use Rattle.std.specs.Prelude.{◌==◌, ◌&&◌, ◌||◌, ◌⊎◌, nat_eq, nat_le, min, Option, option_map, is_some}
+use Rattle.std.proofs.Common.{◌≡◌, ℕ, ◌≤◌, Bool, true, false, not, cond, List, [], ◌∷◌, map, filter, Some, None, inl, inr, refl, sym, ap, subst, ◌∙◌, arith}
+use Rattle.std.specs.Prelude.{◌&&◌, ◌||◌, ◌⊎◌, nat_eq, nat_le, min, Option, option_map, is_some}
 use Rattle.std.specs.FinMap.{find}
 use Rattle.std.proofs.lemmas.Bool.{eqb-true}
 use Rattle.std.proofs.lemmas.Bool.Decides.{nat_tests}
 use Rattle.vol_numbers.specs.declared.block.Block.{Block}
-use Rattle.block_format.specs.declared.inode.Inode.{Inode}
 use Rattle.dir_slots.specs.Slots.{number_in}
 use Rattle.dirty_store.specs.Entries.{Entries, cut_at}
-use Rattle.dirty_store.specs.Laws.{touched_with, first_of_two, dirty_spots, IsEffectOf}
+use Rattle.dirty_store.specs.Laws.{touched_with, first_of_two, dirty_spots}
 use Rattle.dirty_store.specs.Overlay.{Overlay, IsEffect, cut_of, staged, node_of, least_cut, lower_cut}
 use Rattle.dirty_store.specs.declared.effect.Effect.{Effect}
 use Rattle.dirty_store.specs.declared.effect.Touched.{Touched}
@@ -33,7 +32,7 @@ use Rattle.tree_model.specs.declared.command.Command.{Command}
 use Rattle.tree_model.specs.Step.{step}
 use Rattle.tree_model.specs.Tree.{Tree}
 use Rattle.tree_model.specs.Touched.{touched}
-use Rattle.volume_model.specs.Done.{Cut, is_cut, cut_by, done}
+use Rattle.volume_model.specs.Done.{is_cut, cut_by, done}
 use Rattle.volume_model.specs.Machine.{Machine, Rules, block_at}
 use Rattle.volume_model.specs.Places.{Spot, Places, spot_cmp, spot_eq, has_spot, spots_of}
 use Rattle.volume_model.proofs.PlacesTold.{tie_is, same_by_cmp}

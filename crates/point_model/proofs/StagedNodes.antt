@@ -15,7 +15,6 @@ use Rattle.dirty_store.specs.Entries.{Entries, cut_at}
 use Rattle.dirty_store.specs.Laws.{changed_to}
 use Rattle.dirty_store.specs.Overlay.{Overlay, node_of, least_cut, lower_cut, width_of, forgotten, whole, staged}
 use Rattle.dirty_store.specs.declared.effect.Effect.{Effect}
-use Rattle.dirty_store.specs.declared.node_change.NodeChange.{NodeChange}
 use Rattle.dirty_store.proofs.SlotLaws.{own_node, other_node, changed_is, forgotten_is, other_slot}
 use Rattle.image_model.specs.Seen.{seen}
 use Rattle.image_model.specs.Slots.{slots_of as slots_seen}
@@ -58,7 +57,7 @@ slots_are at (slot ∷ slots) j (suc n) long each =
 
 -- ---- the width of staged slots
 
-spot_parts : (a b : Spot) → spot_eq a b ≡ true → (a.0 ≡ b.0) × (a.1 ≡ b.1)
+pub spot_parts : (a b : Spot) → spot_eq a b ≡ true → (a.0 ≡ b.0) × (a.1 ≡ b.1)
 spot_parts a b is = by (nat_eq a.0 b.0) (nat_eq a.1 b.1) refl refl is
   where
     by : (t u : Bool) → nat_eq a.0 b.0 ≡ t → nat_eq a.1 b.1 ≡ u → (t && u) ≡ true → (a.0 ≡ b.0) × (a.1 ≡ b.1)

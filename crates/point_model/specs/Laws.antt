@@ -9,7 +9,7 @@ use Rattle.image_model.specs.Stands.{Stands}
 use Rattle.point_model.specs.Holding.{HoldsMachine}
 use Rattle.point_model.specs.OldPages.{DirectoriesStand}
 use Rattle.point_model.specs.PointPlan.{PointIsPlanned}
-use Rattle.state_laws.specs.States.{IsCoherent, IsMountable}
+use Rattle.state_laws.specs.States.{IsCoherent}
 use Rattle.tree_model.specs.declared.report.Report.{Report}
 use Rattle.volume_model.specs.Machine.{Machine, Rules, Stored, stored, block_at}
 use Rattle.volume_model.specs.Places.{Spot, spot_cmp}
@@ -44,7 +44,7 @@ PlannedStands = (r : Rules) (old new : List Block) (o : Overlay) (m : Machine) (
 
 -- Each block of a file holds the bytes of its places, where it has 4,096 bytes as those of a disk have.
 abbrev pub BlocksHoldBytes : Type 0
-BlocksHoldBytes = (image : List Block) (s : Stored) → Stands image s → IsMountable s → (spot : Spot) (block : ℕ) → find spot_cmp spot s.places ≡ Some block
+BlocksHoldBytes = (image : List Block) (s : Stored) → Stands image s → (spot : Spot) (block : ℕ) → find spot_cmp spot s.places ≡ Some block
     → length (blocks_in image block) ≡ 4096 → blocks_in image block ≡ block_at s.tree spot
 
 -- The pages of each directory are there, and spell its slots.

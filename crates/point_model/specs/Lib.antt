@@ -1,7 +1,9 @@
 pub mod Holding
-pub mod NodeChanges
-pub mod Staging
 pub mod OldPages
 pub mod NodePlan
 pub mod PointPlan
+pub mod RootPlan
+pub mod NodeChanges
+pub mod Staging
 pub mod Laws
+pub mod FreshPoint

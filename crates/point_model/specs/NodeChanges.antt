@@ -1,16 +1,23 @@
 -- The effect of a change of the nodes, and the table that goes with an image and an overlay.
-use Rattle.std.specs.Prelude.{◌≡◌, ℕ, List, [], ◌∷◌, take, Option, Some, None, if◌then◌else◌}
+use Rattle.std.specs.Prelude.{◌≡◌, ℕ, List, [], ◌∷◌, ◌++◌, take, option_map, Option, Some, None, if◌then◌else◌}
 use Rattle.vol_numbers.specs.declared.block.Block.{Block}
+use Rattle.block_format.specs.declared.slot.Slot.TheVariants.{Unused, Entry}
 use Rattle.dir_slots.specs.Slots.{slot_at}
 use Rattle.dirty_store.specs.declared.effect.Effect.{Effect}
+use Rattle.dirty_store.specs.declared.effect.SlotChange.{SlotChange}
 use Rattle.dirty_store.specs.Laws.{changed_to}
 use Rattle.dirty_store.specs.Overlay.{Overlay, clean}
 use Rattle.image_model.specs.Seen.{seen}
 use Rattle.image_model.specs.Slots.{slots_of as slots_seen}
 use Rattle.node_table.specs.declared.change.Change.{Change}
 use Rattle.node_table.specs.declared.change.Change.TheVariants.{Made, Sized, Removed, Renamed}
-use Rattle.node_table.specs.Held.{Nodes, held, slots_of}
+use Rattle.node_table.specs.Changes.{Does}
+use Rattle.node_table.specs.Held.{Nodes, held, slots_of, info}
 use Rattle.point_model.specs.Holding.{inode_before, width_in, as_node, node_now}
+use Rattle.point_model.specs.PointPlan.{told}
+use Rattle.tree_model.specs.Path.{parent_of}
+use Rattle.tree_model.specs.declared.command.Command.{Command}
+use Rattle.tree_model.specs.declared.command.Command.TheVariants.{Mkdir, Create, Rename}
 use Rattle.volume_model.specs.Places.{Spot, has_spot}
 
 -- the table has for each number the node that the image and the overlay hold
@@ -49,3 +56,32 @@ pub record IsEffectOfChange (change : Change) (after : Nodes) (e : Effect) : Typ
   pub node : as_node e.inode (slots_of (held after e.number)) ≡ held after e.number
   pub cut : CutsFor change e.cut_to
   pub slots : (spot : Spot) → changed_to e.slots spot ≡ (if has_spot (slots_in change) spot then Some (slot_at (slots_of (held after spot.0)) spot.1) else None)
+
+-- ---- how an effect is built
+
+-- the slots that a change empties and fills: a new name comes into one with the number
+abbrev pub slot_changes : Change → List ℕ → List SlotChange
+slot_changes (Made parent slot number) name = record { directory = parent; slot = slot; content = Entry number name } ∷ []
+slot_changes (Sized number size) name = []
+slot_changes (Removed parent slot number) name = record { directory = parent; slot = slot; content = Unused } ∷ []
+slot_changes (Renamed number from from_slot to to_slot) name = record { directory = from; slot = from_slot; content = Unused } ∷ record { directory = to; slot = to_slot; content = Entry number name } ∷ []
+
+-- the name that a command gives to a node, if it does
+abbrev pub GivesName : Command → List ℕ → Type 0
+GivesName (Mkdir path) name = path ≡ parent_of path ++ name ∷ []
+GivesName (Create path) name = path ≡ parent_of path ++ name ∷ []
+GivesName (Rename from to) name = to ≡ parent_of to ++ name ∷ []
+GivesName command name = Unit {0}
+
+-- The effect tells the kind and size that the number has after the change, cuts what the change cuts, and has the slots that it empties and fills.
+pub record IsBuiltOf (command : Command) (change : Change) (after : Nodes) (e : Effect) : Type 0 where
+  pub name : List ℕ
+  pub gives : GivesName command name
+  pub number : e.number ≡ number_of change
+  pub kind : told e.inode ≡ option_map info (held after e.number)
+  pub cut : CutsFor change e.cut_to
+  pub slots : e.slots ≡ slot_changes change name
+
+-- An effect that is built of a change is the change's.
+abbrev pub BuiltIsOfChange : Type 0
+BuiltIsOfChange = (command : Command) (change : Change) (before after : Nodes) (e : Effect) → Does command change before after → IsBuiltOf command change after e → IsEffectOfChange change after e

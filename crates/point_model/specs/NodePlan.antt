@@ -1,5 +1,5 @@
 -- What is planned of one number: facts of an image in which the pages stand, and the old blocks as they were.
-use Rattle.std.specs.Prelude.{◌≡◌, ◌≤◌, ◌<◌, ℕ, ◌+◌, ◌*◌, ◌/◌, ◌==◌, ◌&&◌, not, nat_lt, Bool, true, false, List, length, Some}
+use Rattle.std.specs.Prelude.{◌≡◌, ◌≤◌, ◌<◌, ℕ, ◌+◌, ◌/◌, ◌==◌, ◌&&◌, not, nat_lt, Bool, true, false, List, length, Some}
 use Rattle.std.specs.FinMap.{find}
 use Rattle.std.specs.List.{list_any}
 use Rattle.vol_numbers.specs.declared.block.Block.{Block}
@@ -9,7 +9,7 @@ use Rattle.block_format.specs.declared.inode.Inode.{Inode}
 use Rattle.block_tree.specs.Edit.{changed_at, cut_at}
 use Rattle.block_tree.specs.Tree.{block_below, indexes_below, pairs_below, pointers_below, blocks_in, IsFull}
 use Rattle.dir_slots.specs.Pages.{IsPage, pages_for}
-use Rattle.dirty_store.specs.Overlay.{Overlay, node_of, least_cut}
+use Rattle.dirty_store.specs.Overlay.{Overlay}
 use Rattle.image_model.specs.Met.{metas}
 use Rattle.image_model.specs.Nodes.{AllBelow, blocks_in_node}
 use Rattle.image_model.specs.Planned.{height_in, node_trees}

@@ -1,5 +1,5 @@
 -- What is planned for a point: facts of an image in which the pages, the counts and the root stand, and the old blocks as they were.
-use Rattle.std.specs.Prelude.{◌≡◌, ◌≤◌, ◌<◌, ℕ, ◌+◌, ◌*◌, ◌^◌, List, [], ◌∷◌, ◌++◌, length, get_or, slice_get, true, Some, None, Option, option_map}
+use Rattle.std.specs.Prelude.{◌≡◌, ◌<◌, ℕ, ◌+◌, ◌*◌, List, ◌++◌, length, get_or, slice_get, true, Some, None, Option, option_map}
 use Rattle.std.specs.FinMap.{find}
 use Rattle.std.specs.List.{flat_map}
 use Rattle.vol_numbers.specs.Layout.{count_blocks}
@@ -25,7 +25,7 @@ use Rattle.point_model.specs.NodePlan.{TreeIsPlanned, PointersArePlanned, AreOfP
 use Rattle.root_switch.specs.Current.{root_of_image, HasRoot, FitsImage}
 use Rattle.volume_model.specs.Machine.{Machine}
 use Rattle.volume_model.specs.Places.{Spot, Places, spot_cmp}
-use Rattle.volume_model.specs.Point.{next_point, fresh_spots, placed_at}
+use Rattle.volume_model.specs.Point.{next_point}
 
 -- ---- the root and the old blocks
 

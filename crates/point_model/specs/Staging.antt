@@ -11,7 +11,7 @@ use Rattle.node_table.specs.declared.change.Change.{Change}
 use Rattle.point_model.specs.Holding.{HoldsMachine}
 use Rattle.point_model.specs.NodeChanges.{IsTableOf, IsEffectOfChange}
 use Rattle.state_laws.specs.Accepted.{IsAccepted}
-use Rattle.state_laws.specs.States.{IsCoherent, IsMountable, is_held}
+use Rattle.state_laws.specs.States.{IsCoherent, is_held}
 use Rattle.tree_model.specs.declared.command.Command.{Command}
 use Rattle.tree_model.specs.Step.{step}
 use Rattle.tree_model.specs.Tree.{Tree}
@@ -43,4 +43,4 @@ StagingHolds = (r : Rules) (old : List Block) (o : Overlay) (m : Machine) (comma
 
 -- Just after a point, and at a mount before the records are done, an image and a clean overlay hold what the machine does.
 abbrev pub AtRest : Type 0
-AtRest = (old : List Block) (s : Stored) (cache : CacheList) → Stands old s → IsMountable s → HoldsMachine old clean (at_point s.layout s.tree s.places s.point cache)
+AtRest = (old : List Block) (s : Stored) (cache : CacheList) → Stands old s → HoldsMachine old clean (at_point s.layout s.tree s.places s.point cache)

@@ -1,6 +1,8 @@
 //! Laws of planned points.
+ghost use Rattle.point_model.specs.FreshPoint.{FreshPointIsPlanned};
 ghost use Rattle.point_model.specs.Laws.{BlocksHoldBytes, PagesAreSpelled, PlannedHasPoint, PlannedStands};
-ghost use Rattle.point_model.specs.NodeChanges.{CleanNodesAre};
+ghost use Rattle.point_model.specs.NodeChanges.{BuiltIsOfChange, CleanNodesAre};
+ghost use Rattle.point_model.specs.RootPlan.{SwitchedRootIsPlanned};
 ghost use Rattle.point_model.specs.Staging.{AtRest, StagingHolds};
 
 /// An image in which a point is planned has all that a point owes.
@@ -11,6 +13,16 @@ pub fn planned_has_point()
 /// An image in which a point is planned stands for the state after the point.
 pub fn planned_stands()
     ensures { PlannedStands }
+{}
+
+/// An image that a switch leaves has the root that is planned, where the body of the switch is the one for it.
+pub fn switched_root_is_planned()
+    ensures { SwitchedRootIsPlanned }
+{}
+
+/// Over a fresh volume with nothing pending a point may be taken, and is planned in an image with the next root.
+pub fn fresh_point_is_planned()
+    ensures { FreshPointIsPlanned }
 {}
 
 /// In an image that stands for something, each block of a file holds the bytes of its places.
@@ -26,6 +38,11 @@ pub fn pages_are_spelled()
 /// Staging the effect of an accepted command keeps what an image and an overlay hold, and the table after the command is then theirs.
 pub fn staging_holds()
     ensures { StagingHolds }
+{}
+
+/// An effect that is built of a change of the nodes is the change's.
+pub fn built_is_of_change()
+    ensures { BuiltIsOfChange }
 {}
 
 /// Just after a point, and at a mount before the records are done, an image and a clean overlay hold what the machine does.

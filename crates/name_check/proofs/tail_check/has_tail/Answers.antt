@@ -1,8 +1,8 @@
-use Rattle.std.proofs.Common.{◌≡◌, ◌-◌, ◌*◌, ℕ, Bool, not, List, take, drop, length, IfOk, IsTrue, refl, sym, ap, ◌∙◌, arith}
+use Rattle.std.proofs.Common.{◌≡◌, ◌-◌, ◌*◌, ℕ, Bool, not, List, take, drop, IfOk, IsTrue, sym, ap, ◌∙◌, arith}
 use Rattle.std.specs.Prelude.{◌==◌, Result, Ok, Err}
 use Rattle.std.specs.List.{list_all}
 use Rattle.block_format.specs.Inode.{blocks_of}
-use Rattle.block_tree.specs.Tree.{Blocks, blocks_in}
+use Rattle.block_tree.specs.Tree.{blocks_in}
 use Rattle.image_model.specs.Slots.{held_at}
 use Rattle.image_walk.specs.Blocks.{blocks_held}
 use Rattle.name_check.proofs.tail_check.has_tail.Goals as goal
