@@ -7,6 +7,7 @@ ghost use Rattle.dir_slots.specs.Pages.{SpellsDirectory, IsPage, pages_for};
 ghost use Rattle.dir_slots.specs.declared.fault.DirFault.TheVariants.{BadSlots};
 
 use crate::DirFault;
+use crate::copies::copy_of;
 use crate::holes::{count_above, holes_of, put_hole};
 use crate::order::{gap_for, look_up, order_of, put_again};
 use crate::reading::read_slots;
@@ -41,6 +42,23 @@ impl Model for Directory {
     ghost view = { λ d. d.slots.items };
 
     ghost invariant = { λ d. IsKept d.slots.items d.order.items d.holes.items × (length d.slots.items < vec_capacity d.holes) };
+}
+
+impl Clone for Directory {
+    ghost is_clone = { λ old new. new ≡ old };
+
+    /// The same directory again.
+    fn clone(&self) -> Result<Directory, AllocError> {
+        let alloc = *self.slots.allocator();
+        let slots = copy_of(alloc, &self.slots, 0)?;
+        let order = copy_of(alloc, &self.order, 0)?;
+        let holes = copy_of(alloc, &self.holes, self.slots.len() + 1)?;
+        Ok(Directory {
+            slots,
+            order,
+            holes,
+        })
+    }
 }
 
 impl Directory {

@@ -1,6 +1,7 @@
 //! Directories in memory: which names they have, with what numbers and in which slots, read from their blocks and spelled again.
 #![tactic(auto)]
 
+mod copies;
 mod directory;
 mod fault;
 mod holes;

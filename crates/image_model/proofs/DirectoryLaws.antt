@@ -48,7 +48,7 @@ Pieces = List (Slot × List ℕ)
 abbrev pub pieces_in : Blocks → List (ℕ × ℕ) → Pieces
 pieces_in read pairs = flat_map (λ (e : ℕ × ℕ). slots_from 16 (read e.1)) pairs
 
-pieces_append : (xs ys : List SeenBlock) (n : ℕ) → slot_pieces (xs ++ ys) n ≡ slot_pieces xs n ++ slot_pieces ys n
+pub pieces_append : (xs ys : List SeenBlock) (n : ℕ) → slot_pieces (xs ++ ys) n ≡ slot_pieces xs n ++ slot_pieces ys n
 pieces_append [] ys n = refl
 pieces_append (h ∷ hs) ys n = by (h.number == n) (pieces_append hs ys n)
   where
@@ -227,7 +227,7 @@ no_name (slots.Entry number name ∷ ss) m x never = by (name_eq x name) refl (n
     by true is more = absurd (never 0 refl (sym (same_name x name is)))
     by false is more = more
 
-no_twin : (ss : List Slot) (m : ℕ) → HasNamesOnce ss → has_twin (ss ++ replicate m slots.Unused) ≡ false
+pub no_twin : (ss : List Slot) (m : ℕ) → HasNamesOnce ss → has_twin (ss ++ replicate m slots.Unused) ≡ false
 no_twin [] zero once = refl
 no_twin [] (suc m) once = no_twin [] m once
 no_twin (slots.Unused ∷ ss) m once = no_twin ss m (λ i j a b e. let s : suc i ≡ suc j = once (suc i) (suc j) a b e in omega (arith, s))
@@ -235,13 +235,13 @@ no_twin (slots.Entry number name ∷ ss) m once =
     (λ i. no_name ss m name (λ i used is. let s : zero ≡ suc i = once zero (suc i) refl used (sym is) in absurd (omega (arith, s))) i || has_twin (ss ++ replicate m slots.Unused))
     ∙ no_twin ss m (λ i j a b e. let s : suc i ≡ suc j = once (suc i) (suc j) a b e in omega (arith, s))
 
-numbers_same : (ss : List Slot) (m : ℕ) (name : List ℕ) → number_in (ss ++ replicate m slots.Unused) name ≡ number_in ss name
+pub numbers_same : (ss : List Slot) (m : ℕ) (name : List ℕ) → number_in (ss ++ replicate m slots.Unused) name ≡ number_in ss name
 numbers_same [] zero name = refl
 numbers_same [] (suc m) name = numbers_same [] m name
 numbers_same (slots.Unused ∷ ss) m name = numbers_same ss m name
 numbers_same (slots.Entry number other ∷ ss) m name = ap (λ (o : Option ℕ). cond (bytes_eq other name) (Some number) o) (numbers_same ss m name)
 
-all_empty : (m : ℕ) → list_all is_empty (replicate m slots.Unused) ≡ true
+pub all_empty : (m : ℕ) → list_all is_empty (replicate m slots.Unused) ≡ true
 all_empty zero = refl
 all_empty (suc m) = all_empty m
 

@@ -27,7 +27,8 @@ use Rattle.image_model.proofs.InodeWalk.{HasShapes}
 use Rattle.image_model.proofs.NodePlaces.{numbers_distinct}
 use Rattle.image_model.proofs.NodeWalk.{pairs_of_node, walk_good}
 use Rattle.image_model.proofs.SpaceLaws.{below_at}
-use Rattle.image_model.proofs.StandingTree.{root_directory, shape_there}
+use Rattle.image_model.proofs.NodesSeen.{root_directory}
+use Rattle.image_model.proofs.StandingTree.{shape_there}
 use Rattle.image_model.proofs.TreeLaws.{first_faults, other_faults, tree_good}
 
 words_long : (n : ℕ) (bytes : List ℕ) → length bytes ≡ 4 * n → length (words bytes) ≡ n

@@ -29,40 +29,18 @@ use Rattle.image_model.specs.Trees.{StandingTree}
 use Rattle.image_model.specs.Nodes.{is_empty, is_slot_spelled, has_twin, number_named}
 use Rattle.image_model.specs.Seen.{Seen, seen, seen_from}
 use Rattle.image_model.specs.Slots.{slot_pieces, slots_of, inode_of, number_along}
-use Rattle.image_model.specs.Sound.{IsSound}
+use Rattle.image_model.specs.Sound.{IsNamed, IsSound}
 use Rattle.image_model.specs.Stands.{bytes_from, node_of, node_along, layout_in}
 use Rattle.image_model.specs.Walk.{is_used, is_directory, nodes_at}
 use Rattle.image_model.proofs.InodeWalk.{HasShapes}
 use Rattle.image_model.proofs.NameExact.{number_among, different_most}
-use Rattle.image_model.proofs.Naming.{met, no_slots, used_limits, last_step}
+use Rattle.image_model.proofs.NamedLaws.{NodesKnown}
+use Rattle.image_model.proofs.Naming.{met, last_step}
+use Rattle.image_model.proofs.NodesSeen.{known}
 use Rattle.image_model.proofs.NodePlaces.{numbers, numbers_distinct, directory_pairs}
 use Rattle.image_model.proofs.NodeWalk.{WalkMet}
 use Rattle.image_model.proofs.SpaceLaws.{file_length, node_there}
 use Rattle.image_model.proofs.TreeNodes.{keys, Leads, leads, all_lead, keys_distinct}
-
--- ---- the root
-
-any_among : (ns : List (ℕ × Inode)) → list_any (λ (node : ℕ × Inode). node.0 == 1 && is_directory node.1) ns ≡ true → is_among (numbers ns) 1 ≡ true
-any_among [] any = cc
-any_among (node ∷ ns) any = by (node.0 == 1) (is_directory node.1) any (any_among ns)
-  where
-    by : (t u : Bool) → ((t && u) || list_any (λ (node : ℕ × Inode). node.0 == 1 && is_directory node.1) ns) ≡ true → (list_any (λ (node : ℕ × Inode). node.0 == 1 && is_directory node.1) ns ≡ true → is_among (numbers ns) 1 ≡ true) → (t || is_among (numbers ns) 1) ≡ true
-    by true u any more = refl
-    by false u any more = more any
-
-pub root_directory : (ns : List (ℕ × Inode)) → Distinct (numbers ns) → list_any (λ (node : ℕ × Inode). node.0 == 1 && is_directory node.1) ns ≡ true → is_directory (inode_of ns 1) ≡ true
-root_directory [] distinct any = cc
-root_directory (node ∷ ns) distinct any = by (node.0 == 1) refl (is_directory node.1) refl any (root_directory ns distinct.1)
-  where
-    by : (t : Bool) → (node.0 == 1) ≡ t → (u : Bool) → is_directory node.1 ≡ u → ((t && u) || list_any (λ (node : ℕ × Inode). node.0 == 1 && is_directory node.1) ns) ≡ true
-        → (list_any (λ (node : ℕ × Inode). node.0 == 1 && is_directory node.1) ns ≡ true → is_directory (inode_of ns 1) ≡ true) → is_directory (cond t node.1 (inode_of ns 1)) ≡ true
-    by true is true d any more = d
-    by true is false d any more =
-        let e : node.0 ≡ 1 = eqb-true node.0 1 is in
-        let out : is_among (numbers ns) 1 ≡ false = subst (λ (k : ℕ). is_among (numbers ns) k ≡ false) e distinct.0 in
-        let there = any_among ns any in
-        cc
-    by false is u d any more = more any
 
 -- ---- nodes
 
@@ -93,34 +71,31 @@ width_same v w e = cc
 pub apart : (bytes : List ℕ) (w : ℕ) → tree.File bytes ≡ tree.Directory w → ⊥
 apart bytes w e = cc
 
+-- a file's size, or a directory's width, is within the limit
+abbrev pub HasLimit : Inode → Type 0
+HasLimit Unused = Unit {0}
+HasLimit (File size height ptr) = size ≤ 4294967296
+HasLimit (Directory width height ptr) = width ≤ 65534
+
 -- of a directory's node the width, and of a file's the size, are within their limits
-wide : (s : Seen) (n : ℕ) (x : Inode) (width : ℕ) → inode_shape x ≡ true → node_of s n x ≡ Some (record { number = n; content = tree.Directory width }) → (is_directory x ≡ true) × (width ≤ 65534)
+wide : (s : Seen) (n : ℕ) (x : Inode) (width : ℕ) → HasLimit x → node_of s n x ≡ Some (record { number = n; content = tree.Directory width }) → (is_directory x ≡ true) × (width ≤ 65534)
 wide s n Unused width shape is = cc
 wide s n (File size height ptr) width shape is = absurd (apart (take size (bytes_from s.contents n 0 (blocks_of size))) width (content_is n _ _ is))
 wide s n (Directory w height ptr) width shape is =
     let same : w ≡ width = width_same w width (content_is n _ _ is) in
-    let low : nat_le w 65534 ≡ true = first_test (nat_le w 65534) (node_fits (256 * w) height ptr) shape in
-    let le : w ≤ 65534 = grind (arith, nat_tests) in
-    (refl, omega (arith, same, le))
+    (refl, omega (arith, same, shape))
 
-long : (s : Seen) (n : ℕ) (x : Inode) (bytes : List ℕ) → inode_shape x ≡ true → node_of s n x ≡ Some (record { number = n; content = tree.File bytes }) → length bytes ≤ 4294967296
+long : (s : Seen) (n : ℕ) (x : Inode) (bytes : List ℕ) → HasLimit x → node_of s n x ≡ Some (record { number = n; content = tree.File bytes }) → length bytes ≤ 4294967296
 long s n Unused bytes shape is = cc
 long s n (File size height ptr) bytes shape is =
     let same : take size (bytes_from s.contents n 0 (blocks_of size)) ≡ bytes = file_same _ _ (content_is n _ _ is) in
-    let low : nat_le size 4294967296 ≡ true = first_test (nat_le size 4294967296) (node_fits size height ptr) shape in
-    let le : size ≤ 4294967296 = grind (arith, nat_tests) in
-    omega (arith, ap (λ (xs : List ℕ). length xs) same, file_length s.contents n size, le)
+    omega (arith, ap (λ (xs : List ℕ). length xs) same, file_length s.contents n size, shape)
 long s n (Directory w height ptr) bytes shape is = absurd (apart bytes w (sym (content_is n _ _ is)))
 
 directory_shape : (s : Seen) (n : ℕ) (x : Inode) → is_directory x ≡ true → shape_of (node_of s n x) ≡ Some (n, true)
 directory_shape s n Unused d = cc
 directory_shape s n (File size height ptr) d = cc
 directory_shape s n (Directory width height ptr) d = refl
-
-no_pairs : (read : Blocks) (x : Inode) → is_directory x ≡ false → length (directory_pairs read x) ≡ 0
-no_pairs read Unused e = refl
-no_pairs read (File size height ptr) e = refl
-no_pairs read (Directory width height ptr) e = cc
 
 -- ---- paths
 
@@ -203,27 +178,24 @@ third_test true b false d e = cc
 third_test false true false d e = cc
 third_test false false false d e = cc
 
--- ---- an image that is sound
+-- ---- nodes that are known
 
-module _ (read : Blocks) (at : ℕ) (homes : List ℕ) (count : ℕ) (g : Layout) (sound : IsSound g (seen_from read at homes count)) (t : Tree) (ordered : IsOrdered t)
-    (same : (path : Path) → node_at t path ≡ node_along (seen_from read at homes count) path) where
-  abbrev s : Seen
-  s = seen_from read at homes count
+-- no entry of a directory comes behind its width
+abbrev pub HasNoneBehind : Seen → ℕ → Inode → Type 0
+HasNoneBehind s n Unused = Unit {0}
+HasNoneBehind s n (File size height ptr) = Unit {0}
+HasNoneBehind s n (Directory width height ptr) = list_all is_empty (drop width (slots_of s n)) ≡ true
 
+module _ (s : Seen) (facts : NodesKnown s) (limited : (n : ℕ) → HasLimit (inode_of s.nodes n)) (behind : (n : ℕ) → HasNoneBehind s n (inode_of s.nodes n)) (named : IsNamed s)
+    (t : Tree) (ordered : IsOrdered t) (same : (path : Path) → node_at t path ≡ node_along s path) where
   abbrev nodes : List (ℕ × Inode)
-  nodes = nodes_at read at
-
-  walked : WalkMet read at
-  walked = met read at homes count g sound.pointers sound.directories
+  nodes = s.nodes
 
   lead : (path : Path) (node : Node) → node_at t path ≡ Some node → Leads s path node
   lead path node is = leads s path node (sym (same path) ∙ is)
 
   used : (path : Path) (node : Node) → node_at t path ≡ Some node → is_used (inode_of nodes node.number) ≡ true
-  used path node is = sound.named.used path node.number (lead path node is).number
-
-  shape_here : (path : Path) (node : Node) → node_at t path ≡ Some node → inode_shape (inode_of nodes node.number) ≡ true
-  shape_here path node is = shape_there nodes walked.shapes node.number (used path node is)
+  used path node is = named.used path node.number (lead path node is).number
 
   directory_at : (path : Path) (d : ℕ) → number_along s 1 path ≡ Some d → is_directory (inode_of nodes d) ≡ true → shape_at t path ≡ Some (d, true)
   directory_at path d along is = ap shape_of (same path ∙ ap (option_and_then (λ n. node_of s n (inode_of s.nodes n))) along) ∙ directory_shape s d (inode_of nodes d) is
@@ -233,11 +205,11 @@ module _ (read : Blocks) (at : ℕ) (homes : List ℕ) (count : ℕ) (g : Layout
     where
       by : (u : Bool) → is_directory (inode_of nodes d) ≡ u → is_directory (inode_of nodes d) ≡ true
       by true is = is
-      by false is = let none : number_in (slots_of s d) name ≡ None = ap (λ (ss : List Slot). number_in ss name) (no_slots read at homes count g sound.pointers sound.directories d (no_pairs read (inode_of nodes d) is)) in cc
+      by false is = let none : number_in (slots_of s d) name ≡ None = ap (λ (ss : List Slot). number_in ss name) (facts.others d is) in cc
 
   shape : IsShape (shape_at t)
   shape = record {
-    root = directory_at [] 1 refl (root_directory nodes (numbers_distinct read at) walked.root);
+    root = directory_at [] 1 refl facts.root;
     fronts = λ front name rest x is.
         let node = some_shape (node_at t (front ++ name ∷ rest)) x is in
         let along = sym (along_split s front (name ∷ rest) 1) ∙ (lead (front ++ name ∷ rest) node.0 node.1).number in
@@ -247,10 +219,10 @@ module _ (read : Blocks) (at : ℕ) (homes : List ℕ) (count : ℕ) (g : Layout
     one_path = λ p q number a b is other.
         let m = some_shape (node_at t p) (number, a) is in
         let n = some_shape (node_at t q) (number, b) other in
-        sound.named.one_path p q number ((lead p m.0 m.1).number ∙ ap (λ (k : ℕ). Some k) m.2) ((lead q n.0 n.1).number ∙ ap (λ (k : ℕ). Some k) n.2);
+        named.one_path p q number ((lead p m.0 m.1).number ∙ ap (λ (k : ℕ). Some k) m.2) ((lead q n.0 n.1).number ∙ ap (λ (k : ℕ). Some k) n.2);
     numbered = λ path x is.
         let node = some_shape (node_at t path) x is in
-        let limits = used_limits read at homes count g sound.pointers sound.directories node.0.number (used path node.0 node.1) in
+        let limits = facts.limits node.0.number (used path node.0 node.1) in
         (omega (arith, node.2, limits.0), omega (arith, node.2, limits.1));
   }
 
@@ -283,30 +255,73 @@ module _ (read : Blocks) (at : ℕ) (homes : List ℕ) (count : ℕ) (g : Layout
   entries_fit : (path : Path) (number width : ℕ) → node_at t path ≡ Some (record { number = number; content = tree.Directory width }) → (length (entries_of t path) ≤ width) × (width ≤ 65534)
   entries_fit path number width is =
       let led = lead path (record { number = number; content = tree.Directory width }) is in
-      let fits = wide s number (inode_of nodes number) width (shape_here path (record { number = number; content = tree.Directory width }) is) led.inode in
-      let there = node_there nodes number (used path (record { number = number; content = tree.Directory width }) is) in
-      let empty = empty_from (inode_of nodes number) led.inode there in
-      let named = filter_map number_named (slots_of s number) in
-      let apart = distinct_count (entry_numbers path t) (numbers_apart path t (keys_distinct s t ordered same sound.named)) in
-      let part = different_part (entry_numbers path t) named (entries_named path number led.number t (all_lead s t ordered same sound.named)) in
-      (omega (arith, numbers_long (entries_of t path), apart, part, different_most named, named_most (slots_of s number) width empty), fits.1)
+      let fits = wide s number (inode_of nodes number) width (limited number) led.inode in
+      let empty = empty_from (inode_of nodes number) led.inode (behind number) in
+      let named_here = filter_map number_named (slots_of s number) in
+      let apart = distinct_count (entry_numbers path t) (numbers_apart path t (keys_distinct s t ordered same named)) in
+      let part = different_part (entry_numbers path t) named_here (entries_named path number led.number t (all_lead s t ordered same named)) in
+      (omega (arith, numbers_long (entries_of t path), apart, part, different_most named_here, named_most (slots_of s number) width empty), fits.1)
     where
-      empty_from : (x : Inode) → node_of s number x ≡ Some (record { number = number; content = tree.Directory width }) → Contains nodes (number, x) → list_all is_empty (drop width (slots_of s number)) ≡ true
-      empty_from Unused is there = cc
-      empty_from (File size height ptr) is there = absurd (apart (take size (bytes_from s.contents number 0 (blocks_of size))) width (content_is number _ _ is))
-      empty_from (Directory w height ptr) is there =
+      empty_from : (x : Inode) → node_of s number x ≡ Some (record { number = number; content = tree.Directory width }) → HasNoneBehind s number x → list_all is_empty (drop width (slots_of s number)) ≡ true
+      empty_from Unused is none = cc
+      empty_from (File size height ptr) is none = absurd (apart (take size (bytes_from s.contents number 0 (blocks_of size))) width (content_is number _ _ is))
+      empty_from (Directory w height ptr) is none =
           let equal : w ≡ width = width_same w width (content_is number _ _ is) in
-          subst (λ (k : ℕ). list_all is_empty (drop k (slots_of s number)) ≡ true) equal (third_test (not (count_by (λ h. h.number == number) s.pages == blocks_of (256 * w))) (not (list_all (λ p. is_slot_spelled p.0 p.1) (slot_pieces s.pages number))) (list_all is_empty (drop w (slots_of s number))) (has_twin (slots_of s number)) (sound.directories (number, Directory w height ptr) there))
+          subst (λ (k : ℕ). list_all is_empty (drop k (slots_of s number)) ≡ true) equal none
 
-  pub is_tree : IsTree t
-  is_tree = record {
+  pub known_tree : IsTree t
+  known_tree = record {
     ordered = ordered;
     shape = shape;
     widths = entries_fit;
     sizes = λ path number bytes is.
         let led = lead path (record { number = number; content = tree.File bytes }) is in
-        long s number (inode_of nodes number) bytes (shape_here path (record { number = number; content = tree.File bytes }) is) led.inode;
+        long s number (inode_of nodes number) bytes (limited number) led.inode;
   }
+
+-- ---- an image that is sound
+
+shape_limit : (x : Inode) → inode_shape x ≡ true → HasLimit x
+shape_limit Unused shape = tt
+shape_limit (File size height ptr) shape = let low : nat_le size 4294967296 ≡ true = first_test (nat_le size 4294967296) (node_fits size height ptr) shape in grind (arith, nat_tests)
+shape_limit (Directory width height ptr) shape = let low : nat_le width 65534 ≡ true = first_test (nat_le width 65534) (node_fits (256 * width) height ptr) shape in grind (arith, nat_tests)
+
+module _ (read : Blocks) (at : ℕ) (homes : List ℕ) (count : ℕ) (g : Layout) (sound : IsSound g (seen_from read at homes count)) (t : Tree) (ordered : IsOrdered t)
+    (same : (path : Path) → node_at t path ≡ node_along (seen_from read at homes count) path) where
+  abbrev seen_here : Seen
+  seen_here = seen_from read at homes count
+
+  abbrev nodes_here : List (ℕ × Inode)
+  nodes_here = nodes_at read at
+
+  walked : WalkMet read at
+  walked = met read at homes count g sound.pointers sound.directories
+
+  limited_here : (n : ℕ) → HasLimit (inode_of nodes_here n)
+  limited_here n = by (is_used (inode_of nodes_here n)) refl
+    where
+      unused : (x : Inode) → is_used x ≡ false → HasLimit x
+      unused Unused e = tt
+      unused (File size height ptr) e = cc
+      unused (Directory width height ptr) e = cc
+
+      by : (u : Bool) → is_used (inode_of nodes_here n) ≡ u → HasLimit (inode_of nodes_here n)
+      by true is = shape_limit (inode_of nodes_here n) (shape_there nodes_here walked.shapes n is)
+      by false is = unused (inode_of nodes_here n) is
+
+  behind_here : (n : ℕ) → HasNoneBehind seen_here n (inode_of nodes_here n)
+  behind_here n = by (inode_of nodes_here n) refl
+    where
+      by : (x : Inode) → inode_of nodes_here n ≡ x → HasNoneBehind seen_here n x
+      by Unused is = tt
+      by (File size height ptr) is = tt
+      by (Directory w height ptr) is =
+          let there : Contains nodes_here (n, Directory w height ptr) = subst (λ (x : Inode). Contains nodes_here (n, x)) is (node_there nodes_here n (ap is_used is)) in
+          third_test (not (count_by (λ h. h.number == n) seen_here.pages == blocks_of (256 * w))) (not (list_all (λ p. is_slot_spelled p.0 p.1) (slot_pieces seen_here.pages n))) (list_all is_empty (drop w (slots_of seen_here n)))
+          (has_twin (slots_of seen_here n)) (sound.directories (n, Directory w height ptr) there)
+
+  pub is_tree : IsTree t
+  is_tree = known_tree seen_here (known read at homes count g sound.pointers sound.directories) limited_here behind_here sound.named t ordered same
 
 pub standing_tree : StandingTree
 unfolding seen

@@ -4,15 +4,18 @@ use Rattle.vol_numbers.specs.declared.block.Block.{Block}
 use Rattle.root_switch.specs.Current.{root_of_image, HasRoot, FitsImage}
 use Rattle.tree_model.specs.Order.{IsOrdered}
 use Rattle.tree_model.specs.Path.{Path}
+use Rattle.tree_model.specs.Shape.{IsTree}
 use Rattle.tree_model.specs.Tree.{Tree, node_at}
 use Rattle.tree_model.specs.declared.command.Command.{Command}
 use Rattle.volume_model.specs.Machine.{Stored}
-use Rattle.image_model.specs.Findings.{body_finding}
+use Rattle.volume_model.specs.Space.{free_blocks}
+use Rattle.image_model.specs.Findings.{body_finding, free_in}
 use Rattle.image_model.specs.Finds.{Finds, early_finding}
+use Rattle.image_model.specs.Holds.{HoldsTree}
 use Rattle.image_model.specs.Roots.{root_finding}
 use Rattle.image_model.specs.Seen.{seen}
 use Rattle.image_model.specs.Sound.{IsSound}
-use Rattle.image_model.specs.Stands.{Stands, Logs, layout_in, node_along, spot_of}
+use Rattle.image_model.specs.Stands.{Stands, Shows, Logs, layout_in, node_along, spot_of}
 use Rattle.image_model.specs.declared.finding.Finding.{Finding}
 use Rattle.image_model.specs.declared.finding.Finding.TheVariants.{NoRoot, BadGeometry}
 
@@ -39,6 +42,19 @@ NoneFound = (image : List Block) → body_finding (layout_in image) (seen image)
 abbrev pub NoneFoundStands : Type 0
 NoneFoundStands = (image : List Block) → early_finding image ≡ None → (tree : Tree) × IsOrdered tree × ((path : Path) → node_at tree path ≡ node_along (seen image) path)
     × ((records : List Command) → Logs image (seen_stored image tree records) → Stands image (seen_stored image tree records))
+
+-- What an image shows, whatever its log has: a tree, which is held node by node, and as many free blocks as are counted. It stands for that with
+-- the records of its log, where these are accepted.
+pub record IsShownEarly (image : List Block) (s : Stored) : Type 0 where
+  pub shows : Shows (seen image) s
+  pub is_tree : IsTree s.tree
+  pub held : HoldsTree (seen image) s.tree
+  pub free : free_in (layout_in image) (seen image).kept ≡ free_blocks (layout_in image) s.tree s.places
+  pub stands : (records : List Command) → Logs image (record s { records = records }) → Stands image (record s { records = records })
+
+-- An image in which nothing is found before the log shows such a thing.
+abbrev pub NoneFoundShows : Type 0
+NoneFoundShows = (image : List Block) → early_finding image ≡ None → (s : Stored) × IsShownEarly image s
 
 -- An image that stands for something has no finding.
 abbrev pub StandingHasNone : Type 0

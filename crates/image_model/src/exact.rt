@@ -1,5 +1,5 @@
 //! Laws of what is found in an image.
-ghost use Rattle.image_model.specs.Exact.{RootsAreFound, NoneFound, NoneFoundStands, NoneFoundEarly, StandingHasNone, OneFinding, StandsOrFinds};
+ghost use Rattle.image_model.specs.Exact.{RootsAreFound, NoneFound, NoneFoundStands, NoneFoundShows, NoneFoundEarly, StandingHasNone, OneFinding, StandsOrFinds};
 
 /// The phases of the root find nothing exactly where there is a root that fits the image.
 pub fn roots_are_found()
@@ -19,6 +19,11 @@ pub fn none_found()
 /// An image in which nothing is found stands for a tree, where its records are accepted.
 pub fn none_found_stands()
     ensures { NoneFoundStands }
+{}
+
+/// An image in which nothing is found before the log shows a tree that is held node by node, and has as many free blocks as are counted.
+pub fn none_found_shows()
+    ensures { NoneFoundShows }
 {}
 
 /// An image that stands for something has no finding.
