@@ -4,6 +4,8 @@ pub mod InodeLaws
 pub mod MarkLaws
 pub mod MixedLaws
 pub mod NodeLaws
+mod LeftLaws
+mod OrderLaws
 pub mod StrayLaws
 pub mod TreeLaws
 pub mod WholeLaws

@@ -1,7 +1,10 @@
+pub mod Blocks
 pub mod Cause
 pub mod Going
 pub mod Inodes
 pub mod Kept
+pub mod Left
 pub mod Marks
+pub mod Order
 pub mod Trees
 pub mod Walked

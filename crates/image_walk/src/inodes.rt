@@ -1,5 +1,5 @@
 //! The inode blocks.
-ghost use Rattle.std.specs.Prelude.{◌≡◌, ◌≤◌, ◌<◌, ◌∷◌, ◌++◌, [], ℕ, List, Some, false, if◌then◌else◌, IfOk, OnOk, IsTrue, length, slice_index};
+ghost use Rattle.std.specs.Prelude.{◌≡◌, ◌≤◌, ◌<◌, ◌+◌, ◌∷◌, ◌++◌, [], ℕ, List, Some, false, if◌then◌else◌, IfOk, OnOk, IsTrue, length, slice_index};
 ghost use Rattle.std.specs.List.{flat_map};
 ghost use Rattle.vol_numbers.specs.Geometry.{layout_of};
 ghost use Rattle.disk_model.specs.Past.{Adds};
@@ -11,6 +11,7 @@ ghost use Rattle.block_tree.specs.Tree.{blocks_in};
 ghost use Rattle.image_model.specs.Walk.{bad_met, block_met, blocks_met, inodes_from, blocks_inodes, nodes_of, is_used};
 ghost use Rattle.image_walk.specs.Cause.{HasWalkCause, IsNoDevice};
 ghost use Rattle.image_walk.specs.Going.{Checks};
+ghost use Rattle.image_walk.specs.Order.{NodesGrow};
 ghost use Rattle.image_walk.specs.Inodes.{block_at, inodes_at};
 
 use crate::WalkFault;
@@ -38,6 +39,7 @@ pub(crate) fn walk_inodes<D: Disk>(
     requires entries { (k : ℕ) → k < 1024 → IsPointer (layout_of g.now) (slice_index entries.now k) }
     ensures walked { IsTrue D.tells → Checks (layout_of g.now) (blocks_met (blocks_in (D.state disk.old).contents) 0 entries.now) result }
     ensures nodes { OnOk result (IsTrue D.tells → nodes.new.items ≡ nodes.old.items ++ nodes_of (blocks_inodes (blocks_in (D.state disk.old).contents) 0 entries.now)) }
+    ensures grows { OnOk result (NodesGrow 0 65536 nodes.old.items nodes.new.items) }
     ensures same { IsTrue D.tells → D.state disk.new ≡ D.state disk.old }
     ensures moments { IsTrue D.tells → Adds (D.past disk.old) (D.past disk.new) (λ s. s ≡ D.state disk.old) }
     ensures fixed { D.fixed disk.new ≡ D.fixed disk.old }
@@ -62,6 +64,7 @@ fn walk_block<D: Disk>(
     requires first { first ≤ 65472 }
     ensures walked { IsTrue D.tells → Checks (layout_of g.now) (block_at (blocks_in (D.state disk.old).contents) first at) result }
     ensures nodes { OnOk result (IsTrue D.tells → nodes.new.items ≡ nodes.old.items ++ nodes_of (inodes_at (blocks_in (D.state disk.old).contents) first at)) }
+    ensures grows { OnOk result (NodesGrow first (first + 64) nodes.old.items nodes.new.items) }
     ensures same { IsTrue D.tells → D.state disk.new ≡ D.state disk.old }
     ensures moments { IsTrue D.tells → Adds (D.past disk.old) (D.past disk.new) (λ s. s ≡ D.state disk.old) }
     ensures fixed { D.fixed disk.new ≡ D.fixed disk.old }
@@ -84,6 +87,7 @@ fn meet_block(
     requires { first ≤ 65472 }
     ensures walked { Checks (layout_of g.now) (block_met first (inodes_from 64 first block.now.bytes)) result }
     ensures nodes { OnOk result (nodes.new.items ≡ nodes.old.items ++ nodes_of (inodes_from 64 first block.now.bytes)) }
+    ensures grows { OnOk result (NodesGrow first (first + 64) nodes.old.items nodes.new.items) }
     ensures cause { IsNoDevice result }
 {
     let before = nodes.len();

@@ -119,6 +119,7 @@ impl Marks {
         requires { length self.old ≡ 1024 * count_blocks (layout_of g.now) }
         ensures walked { (n place : ℕ) → Walks (layout_of g.now) self.old self.new (content n place ptr ∷ []) result }
         ensures cause { IsNoDevice result }
+        ensures within { OnOk result (IsInArea (layout_of g.now) ptr) }
     {
         if !is_in_area(ptr, g) {
             return Err(WalkFault::Found(Finding::BadPointer(ptr)));

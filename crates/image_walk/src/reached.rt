@@ -1,33 +1,17 @@
 //! What a walk has reached so far.
-ghost use Rattle.std.specs.Prelude.{◌≡◌, ◌*◌, ◌∷◌, ◌++◌, [], OnOk, IfOk, length, replicate};
+ghost use Rattle.std.specs.Prelude.{◌≡◌, ◌<◌, ◌*◌, ℕ, ◌∷◌, ◌++◌, [], OnOk, IfOk, length, replicate};
 ghost use Rattle.vol_numbers.specs.Geometry.{layout_of};
 ghost use Rattle.vol_numbers.specs.Layout.{count_blocks};
 ghost use Rattle.image_model.specs.Met.{page, content};
 ghost use Rattle.image_walk.specs.Marks.{no_mark};
 ghost use Rattle.image_walk.specs.Cause.{IsNoDevice};
 ghost use Rattle.image_walk.specs.Kept.{last_of};
+ghost use Rattle.image_walk.specs.Order.{BlocksGrow, KeepsOf};
 ghost use Rattle.image_walk.specs.Trees.{PassesOver};
 
-use crate::{Marks, WalkFault};
+use crate::{Marks, NodeBlock, WalkFault};
 use std::alloc::{AllocError, Global};
 use vol_numbers::{BlockNo, Fbn, Geometry, InoNo};
-
-/// A directory's block.
-#[derive(Clone, Copy, Debug, PartialEq, Eq)]
-pub struct PagePlace {
-    /// The directory.
-    pub number: InoNo,
-    pub place: Fbn,
-    pub block: BlockNo,
-}
-
-/// A file's block at its last place.
-#[derive(Clone, Copy, Debug, PartialEq, Eq)]
-pub struct LastBlock {
-    /// The file.
-    pub number: InoNo,
-    pub block: BlockNo,
-}
 
 /// Whose blocks are walked over.
 #[derive(Clone, Copy)]
@@ -42,8 +26,8 @@ pub(crate) struct Owner {
 #[derive(Drop)]
 pub(crate) struct Reached {
     pub(crate) marks: Marks,
-    pub(crate) pages: Vec<PagePlace>,
-    pub(crate) lasts: Vec<LastBlock>,
+    pub(crate) pages: Vec<NodeBlock>,
+    pub(crate) lasts: Vec<NodeBlock>,
 }
 
 impl Reached {
@@ -71,6 +55,7 @@ impl Reached {
     ) -> Result<(), WalkFault>
         requires { length self.old.marks ≡ 1024 * count_blocks (layout_of g.now) }
         ensures walked { PassesOver (layout_of g.now) self.old self.new (page owner.now.number place ptr ∷ []) [] result }
+        ensures keeps { OnOk result (KeepsOf (layout_of g.now).blocks owner.now.number self.old self.new) }
         ensures cause { IsNoDevice result }
     {
         self.marks.meet_metadata(g, ptr)?;
@@ -88,6 +73,7 @@ impl Reached {
     ) -> Result<(), WalkFault>
         requires { length self.old.marks ≡ 1024 * count_blocks (layout_of g.now) }
         ensures walked { PassesOver (layout_of g.now) self.old self.new (content owner.now.number place ptr ∷ []) (last_of owner.now.blocks (content owner.now.number place ptr)) result }
+        ensures keeps { OnOk result (KeepsOf (layout_of g.now).blocks owner.now.number self.old self.new) }
         ensures cause { IsNoDevice result }
     {
         self.marks.meet_content(g, ptr)?;
@@ -98,14 +84,15 @@ impl Reached {
 
 /// One page more.
 fn keep_page(
-    pages: &mut Vec<PagePlace>,
+    pages: &mut Vec<NodeBlock>,
     owner: &Owner,
     place: Fbn,
     block: BlockNo,
 ) -> Result<(), AllocError>
-    ensures { OnOk result (pages.new.items ≡ pages.old.items ++ (record { number = owner.now.number; place = place; block = block } ∷ [])) }
+    ensures kept { OnOk result (pages.new.items ≡ pages.old.items ++ (record { number = owner.now.number; place = place; block = block } ∷ [])) }
+    ensures grows { OnOk result ((size : ℕ) → block < size → BlocksGrow size owner.now.number pages.old.items pages.new.items) }
 {
-    pages.push(PagePlace {
+    pages.push(NodeBlock {
         number: owner.number,
         place,
         block,
@@ -115,18 +102,20 @@ fn keep_page(
 
 /// One block more, if it is that of the last place.
 fn keep_last(
-    lasts: &mut Vec<LastBlock>,
+    lasts: &mut Vec<NodeBlock>,
     owner: &Owner,
     place: Fbn,
     block: BlockNo,
 ) -> Result<(), AllocError>
-    ensures { OnOk result (lasts.new.items ≡ lasts.old.items ++ last_of owner.now.blocks (content owner.now.number place block)) }
+    ensures kept { OnOk result (lasts.new.items ≡ lasts.old.items ++ last_of owner.now.blocks (content owner.now.number place block)) }
+    ensures grows { OnOk result ((size : ℕ) → block < size → BlocksGrow size owner.now.number lasts.old.items lasts.new.items) }
 {
     if u64::from(place) + 1 != owner.blocks {
         return Ok(());
     }
-    lasts.push(LastBlock {
+    lasts.push(NodeBlock {
         number: owner.number,
+        place,
         block,
     })?;
     Ok(())

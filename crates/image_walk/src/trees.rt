@@ -1,5 +1,5 @@
 //! The blocks of nodes.
-ghost use Rattle.std.specs.Prelude.{◌≡◌, ◌≤◌, ◌<◌, ◌+◌, ◌*◌, ◌==◌, ◌++◌, ℕ, List, OnOk, IsTrue, length, slice_index, drop};
+ghost use Rattle.std.specs.Prelude.{◌≡◌, ◌≤◌, ◌<◌, ◌+◌, ◌*◌, ◌==◌, ◌++◌, [], ℕ, List, OnOk, IsTrue, length, slice_index, drop};
 ghost use Rattle.std.specs.List.{flat_map, list_all};
 ghost use Rattle.vol_numbers.specs.Geometry.{layout_of};
 ghost use Rattle.vol_numbers.specs.Layout.{Layout, count_blocks};
@@ -11,6 +11,7 @@ ghost use Rattle.image_walk.specs.Cause.{HasWalkCause, IsNoDevice};
 ghost use Rattle.image_walk.specs.declared.marks.Mark.{Mark};
 ghost use Rattle.image_walk.specs.Going.{Walks};
 ghost use Rattle.image_walk.specs.Kept.{node_lasts, all_lasts};
+ghost use Rattle.image_walk.specs.Order.{KeepsOf, InOrder};
 ghost use Rattle.image_walk.specs.Trees.{owner_met, place_met, top_met, PassesOver, OwnerPasses};
 
 use crate::index::meet_index;
@@ -31,7 +32,9 @@ pub(crate) fn walk_trees<D: Disk>(
 ) -> Result<(), WalkFault>
     requires size { (layout_of g.now).blocks ≡ (D.fixed disk.old).size }
     requires marks { length reached.old.marks ≡ 1024 * count_blocks (layout_of g.now) }
+    requires order { InOrder (layout_of g.now).blocks nodes.now reached.old }
     ensures walked { IsTrue D.tells → PassesOver (layout_of g.now) reached.old reached.new (flat_map (node_met (blocks_in (D.state disk.old).contents)) nodes.now) (all_lasts (blocks_in (D.state disk.old).contents) nodes.now) result }
+    ensures order { OnOk result (InOrder (layout_of g.now).blocks [] reached.new) }
     ensures long { OnOk result (length reached.new.marks ≡ length reached.old.marks) }
     ensures same { IsTrue D.tells → D.state disk.new ≡ D.state disk.old }
     ensures moments { IsTrue D.tells → Adds (D.past disk.old) (D.past disk.new) (λ s. s ≡ D.state disk.old) }
@@ -54,6 +57,7 @@ fn walk_node<D: Disk>(
     requires size { (layout_of g.now).blocks ≡ (D.fixed disk.old).size }
     requires marks { length reached.old.marks ≡ 1024 * count_blocks (layout_of g.now) }
     ensures walked { IsTrue D.tells → PassesOver (layout_of g.now) reached.old reached.new (node_met (blocks_in (D.state disk.old).contents) node.now) (node_lasts (blocks_in (D.state disk.old).contents) node.now) result }
+    ensures keeps { OnOk result (KeepsOf (layout_of g.now).blocks node.now.0 reached.old reached.new) }
     ensures long { OnOk result (length reached.new.marks ≡ length reached.old.marks) }
     ensures same { IsTrue D.tells → D.state disk.new ≡ D.state disk.old }
     ensures moments { IsTrue D.tells → Adds (D.past disk.old) (D.past disk.new) (λ s. s ≡ D.state disk.old) }
@@ -93,6 +97,7 @@ fn walk_tree<D: Disk>(
     requires size { (layout_of g.now).blocks ≡ (D.fixed disk.old).size }
     requires marks { length reached.old.marks ≡ 1024 * count_blocks (layout_of g.now) }
     ensures walked { IsTrue D.tells → OwnerPasses (layout_of g.now) owner.now reached.old reached.new (tree_met (blocks_in (D.state disk.old).contents) (owner_met owner.now) owner.now.blocks height ptr) result }
+    ensures keeps { OnOk result (KeepsOf (layout_of g.now).blocks owner.now.number reached.old reached.new) }
     ensures long { OnOk result (length reached.new.marks ≡ length reached.old.marks) }
     ensures same { IsTrue D.tells → D.state disk.new ≡ D.state disk.old }
     ensures moments { IsTrue D.tells → Adds (D.past disk.old) (D.past disk.new) (λ s. s ≡ D.state disk.old) }
@@ -121,6 +126,7 @@ fn walk_top<D: Disk>(
     requires at { IsPointer (layout_of g.now) at }
     requires marks { length reached.old.marks ≡ 1024 * count_blocks (layout_of g.now) }
     ensures walked { IsTrue D.tells → OwnerPasses (layout_of g.now) owner.now reached.old reached.new (top_met (blocks_in (D.state disk.old).contents) owner.now at) result }
+    ensures keeps { OnOk result (KeepsOf (layout_of g.now).blocks owner.now.number reached.old reached.new) }
     ensures long { OnOk result (length reached.new.marks ≡ length reached.old.marks) }
     ensures same { IsTrue D.tells → D.state disk.new ≡ D.state disk.old }
     ensures moments { IsTrue D.tells → Adds (D.past disk.old) (D.past disk.new) (λ s. s ≡ D.state disk.old) }
@@ -149,6 +155,7 @@ fn walk_leaves<D: Disk>(
     requires tops { (k : ℕ) → k < 1024 → IsPointer (layout_of g.now) (slice_index tops.now k) }
     requires marks { length reached.old.marks ≡ 1024 * count_blocks (layout_of g.now) }
     ensures walked { IsTrue D.tells → OwnerPasses (layout_of g.now) owner.now reached.old reached.new (leaves_met (blocks_in (D.state disk.old).contents) (owner_met owner.now) owner.now.blocks 0 tops.now) result }
+    ensures keeps { OnOk result (KeepsOf (layout_of g.now).blocks owner.now.number reached.old reached.new) }
     ensures long { OnOk result (length reached.new.marks ≡ length reached.old.marks) }
     ensures same { IsTrue D.tells → D.state disk.new ≡ D.state disk.old }
     ensures moments { IsTrue D.tells → Adds (D.past disk.old) (D.past disk.new) (λ s. s ≡ D.state disk.old) }
@@ -175,6 +182,7 @@ fn walk_leaf<D: Disk>(
     requires at { IsPointer (layout_of g.now) at }
     requires marks { length reached.old.marks ≡ 1024 * count_blocks (layout_of g.now) }
     ensures walked { IsTrue D.tells → OwnerPasses (layout_of g.now) owner.now reached.old reached.new (leaf_met (blocks_in (D.state disk.old).contents) (owner_met owner.now) owner.now.blocks place at) result }
+    ensures keeps { OnOk result (KeepsOf (layout_of g.now).blocks owner.now.number reached.old reached.new) }
     ensures long { OnOk result (length reached.new.marks ≡ length reached.old.marks) }
     ensures same { IsTrue D.tells → D.state disk.new ≡ D.state disk.old }
     ensures moments { IsTrue D.tells → Adds (D.past disk.old) (D.past disk.new) (λ s. s ≡ D.state disk.old) }
@@ -237,6 +245,7 @@ fn meet_places(
     requires many { length ptrs.now ≡ 1024 }
     requires marks { length reached.old.marks ≡ 1024 * count_blocks (layout_of g.now) }
     ensures walked { OwnerPasses (layout_of g.now) owner.now reached.old reached.new (places_met (owner_met owner.now) owner.now.blocks place ptrs.now) result }
+    ensures keeps { OnOk result (KeepsOf (layout_of g.now).blocks owner.now.number reached.old reached.new) }
     ensures cause { IsNoDevice result }
 {
     for i in 0..1_024 {
@@ -255,6 +264,7 @@ fn meet_place(
 ) -> Result<(), WalkFault>
     requires { length reached.old.marks ≡ 1024 * count_blocks (layout_of g.now) }
     ensures walked { OwnerPasses (layout_of g.now) owner.now reached.old reached.new (place_met owner.now place ptr) result }
+    ensures keeps { OnOk result (KeepsOf (layout_of g.now).blocks owner.now.number reached.old reached.new) }
     ensures cause { IsNoDevice result }
 {
     if ptr == 0 {

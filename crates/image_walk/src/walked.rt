@@ -1,12 +1,17 @@
 //! The walk as a whole.
-ghost use Rattle.std.specs.Prelude.{◌≡◌, ◌*◌, ◌++◌, [], IfOk, OnOk, IsTrue, length, replicate};
+ghost use Rattle.std.specs.Prelude.{◌≡◌, ◌*◌, ◌++◌, [], map, IfOk, IsOk, OnOk, IsTrue, length, replicate, true};
 ghost use Rattle.vol_numbers.specs.Geometry.{layout_of};
 ghost use Rattle.vol_numbers.specs.Layout.{count_blocks};
 ghost use Rattle.disk_model.specs.Past.{Adds};
 ghost use Rattle.block_tree.specs.Tree.{blocks_in};
-ghost use Rattle.image_model.specs.Walk.{nodes_at, walk};
+ghost use Rattle.image_model.specs.Slots.{inode_of};
+ghost use Rattle.image_model.specs.Walk.{is_directory, nodes_at, walk};
 ghost use Rattle.image_walk.specs.Cause.{HasWalkCause};
-ghost use Rattle.image_walk.specs.Kept.{pages_of, all_lasts};
+ghost use Rattle.image_walk.specs.Kept.{all_lasts};
+ghost use Rattle.image_walk.specs.Blocks.{AreOnDisk, NeverFall, blocks_held};
+ghost use Rattle.image_walk.specs.Left.{AreWithin, HasOwners, HaveWidths, OfSeen, SeesEnds};
+ghost use Rattle.image_walk.specs.Order.{InOrder, NodesRise};
+ghost use Rattle.place_words.specs.Rising.{Rising};
 ghost use Rattle.image_walk.specs.Marks.{Says, no_mark};
 ghost use Rattle.image_walk.specs.Trees.{PassesOver};
 ghost use Rattle.image_walk.specs.Walked.{IsFinding};
@@ -16,7 +21,7 @@ use crate::inodes::walk_inodes;
 use crate::reached::Reached;
 use crate::root::walk_root;
 use crate::trees::walk_trees;
-use crate::{LastBlock, Marks, PagePlace, WalkFault};
+use crate::{Marks, NodeBlockList, WalkFault};
 use block_format::Inode;
 use disk_model::Disk;
 use std::alloc::{AllocError, Global};
@@ -25,21 +30,16 @@ use vol_numbers::{BlockNo, Geometry, InoNo, ItemList};
 /// The used inodes with their numbers, in order.
 pub type NodeList = ItemList<(InoNo, Inode)>;
 
-/// The blocks of directories, in the order of the walk.
-pub type PagePlaceList = ItemList<PagePlace>;
-
-/// The last blocks of files, by their numbers.
-pub type LastBlockList = ItemList<LastBlock>;
-
 /// What a walk that found nothing wrong has reached.
 #[derive(Drop)]
 pub struct Walked {
     pub nodes: NodeList,
     /// What leads to each block.
     pub marks: Marks,
-    pub pages: PagePlaceList,
+    /// The blocks of directories.
+    pub pages: NodeBlockList,
     /// Of each file, the block of its last place, where there is no hole.
-    pub lasts: LastBlockList,
+    pub lasts: NodeBlockList,
 }
 
 /// A walk that goes on.
@@ -64,8 +64,19 @@ pub fn walk<D: Disk>(
     ensures nodes { IfOk result (λ w. IsTrue D.tells → w.nodes ≡ nodes_at (blocks_in (D.state disk.old).contents) at) }
     ensures marks { IfOk result (λ w. IsTrue D.tells → Says w.marks (walk (blocks_in (D.state disk.old).contents) at)) }
     ensures long { IfOk result (λ w. length w.marks ≡ 1024 * count_blocks (layout_of g.now)) }
-    ensures pages { IfOk result (λ w. IsTrue D.tells → w.pages ≡ pages_of (walk (blocks_in (D.state disk.old).contents) at)) }
-    ensures lasts { IfOk result (λ w. IsTrue D.tells → w.lasts ≡ all_lasts (blocks_in (D.state disk.old).contents) w.nodes) }
+    // Where the disk tells: what later phases look at is what is seen.
+    ensures pages { IfOk result (λ w. IsTrue D.tells → OfSeen (blocks_in (D.state disk.old).contents) at (λ s. s.pages ≡ blocks_held (blocks_in (D.state disk.old).contents) w.pages)) }
+    ensures owners { IsOk result → IsTrue D.tells → OfSeen (blocks_in (D.state disk.old).contents) at HasOwners }
+    ensures ends { IfOk result (λ w. IsTrue D.tells → OfSeen (blocks_in (D.state disk.old).contents) at (SeesEnds (blocks_in (D.state disk.old).contents) w.lasts)) }
+
+    // On every disk nodes and blocks come by number, sizes and widths are within their limits, number 1 is a directory, and blocks are on the disk.
+    ensures numbers { IfOk result (λ w. Rising 1 (map (λ node. node.0) w.nodes)) }
+    ensures within { IfOk result (λ w. AreWithin w.nodes) }
+    ensures widths { IfOk result (λ w. HaveWidths w.nodes) }
+    ensures root { IfOk result (λ w. is_directory (inode_of w.nodes 1) ≡ true) }
+    ensures order { IfOk result (λ w. NeverFall w.pages × NeverFall w.lasts) }
+    ensures on_disk { IfOk result (λ w. AreOnDisk (D.fixed disk.old).size w.pages × AreOnDisk (D.fixed disk.old).size w.lasts) }
+
     ensures same { IsTrue D.tells → D.state disk.new ≡ D.state disk.old }
     ensures moments { IsTrue D.tells → Adds (D.past disk.old) (D.past disk.new) (λ s. s ≡ D.state disk.old) }
     ensures fixed { D.fixed disk.new ≡ D.fixed disk.old }
@@ -117,8 +128,13 @@ fn walk_parts<D: Disk>(
     requires size { (layout_of g.now).blocks ≡ (D.fixed disk.old).size }
     requires marks { length walking.old.reached.marks ≡ 1024 * count_blocks (layout_of g.now) }
     requires nodes { walking.old.nodes.items ≡ [] }
+    requires pages { walking.old.reached.pages.items ≡ [] }
+    requires lasts { walking.old.reached.lasts.items ≡ [] }
     ensures walked { IsTrue D.tells → PassesOver (layout_of g.now) walking.old.reached walking.new.reached (walk (blocks_in (D.state disk.old).contents) at) (all_lasts (blocks_in (D.state disk.old).contents) (nodes_at (blocks_in (D.state disk.old).contents) at)) result }
     ensures nodes { OnOk result (IsTrue D.tells → walking.new.nodes.items ≡ nodes_at (blocks_in (D.state disk.old).contents) at) }
+    ensures rise { OnOk result (NodesRise 0 65536 walking.new.nodes.items) }
+    ensures root { OnOk result (is_directory (inode_of walking.new.nodes.items 1) ≡ true) }
+    ensures order { OnOk result (InOrder (layout_of g.now).blocks [] walking.new.reached) }
     ensures long { OnOk result (length walking.new.reached.marks ≡ length walking.old.reached.marks) }
     ensures same { IsTrue D.tells → D.state disk.new ≡ D.state disk.old }
     ensures moments { IsTrue D.tells → Adds (D.past disk.old) (D.past disk.new) (λ s. s ≡ D.state disk.old) }

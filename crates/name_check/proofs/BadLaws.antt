@@ -19,11 +19,11 @@ use Rattle.place_words.specs.Different.{span}
 use Rattle.image_model.specs.Nodes.{is_slot_spelled, is_empty, has_twin}
 use Rattle.image_model.specs.Seen.{SeenBlock}
 use Rattle.image_model.specs.Slots.{slots_from, slot_pieces}
-use Rattle.name_check.specs.Blocks.{block_held, blocks_held}
+use Rattle.image_walk.specs.Blocks.{block_held, blocks_held}
 use Rattle.name_check.specs.Directories.{is_bad, HaveBytes, IsRead, IsBad, FindsBad, FindsNone}
 use Rattle.name_check.specs.declared.fault.NameFault.{NameFault}
 use Rattle.name_check.specs.declared.fault.NameFault.TheVariants.{Found, Device, OutOfMemory}
-use Rattle.name_check.specs.declared.blocks.NodeBlock.{NodeBlock}
+use Rattle.image_walk.specs.declared.node_block.NodeBlock.{NodeBlock}
 use Rattle.name_check.proofs.ReadLaws.{no_piece, piece_at, all_at, length_pieces, slot_is, names_once}
 use Rattle.name_check.proofs.RunLaws.{own}
 use Rattle.name_check.proofs.SlotLaws.{Pieces, pieces_of, all_slots, all_good, spelled_slots, slots_between, no_twin, all_empty}

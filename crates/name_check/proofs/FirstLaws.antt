@@ -11,8 +11,8 @@ use Rattle.image_model.specs.Nodes.{first_node, has_tail, tail_finding}
 use Rattle.image_model.specs.Seen.{Seen}
 use Rattle.image_model.specs.declared.finding.Finding.{Finding}
 use Rattle.image_model.specs.declared.finding.Finding.TheVariants.{BadTail}
-use Rattle.name_check.specs.declared.blocks.NodeBlock.{NodeBlock}
-use Rattle.name_check.specs.Seeing.{SeesEnds}
+use Rattle.image_walk.specs.declared.node_block.NodeBlock.{NodeBlock}
+use Rattle.image_walk.specs.Left.{SeesEnds}
 use Rattle.name_check.specs.Tails.{node_has_tail}
 
 abbrev Nodes : Type 0

@@ -5,8 +5,8 @@ use Rattle.std.proofs.lemmas.Bool.{eq-eqb}
 use Rattle.std.proofs.lemmas.Bool.Decides.{nat_tests}
 use Rattle.block_tree.specs.Tree.{Blocks}
 use Rattle.image_model.specs.Slots.{held_at}
-use Rattle.name_check.specs.declared.blocks.NodeBlock.{NodeBlock}
-use Rattle.name_check.specs.Blocks.{number_at, NeverFall, AreOnDisk, blocks_held}
+use Rattle.image_walk.specs.declared.node_block.NodeBlock.{NodeBlock}
+use Rattle.image_walk.specs.Blocks.{number_at, AreOnDisk, blocks_held}
 
 abbrev is_of : ℕ → NodeBlock → Bool
 is_of n b = nat_eq b.number n

@@ -1,5 +1,8 @@
-pub mod Blocks
 pub mod Seeing
 pub mod Tails
 pub mod Directories
 pub mod Cause
+pub mod Names
+pub mod Reaching
+pub mod Lost
+pub mod Tree

@@ -6,8 +6,8 @@ use Rattle.block_format.specs.declared.inode.Inode.{Inode}
 use Rattle.block_format.specs.declared.inode.Inode.TheVariants.{Unused, File, Directory}
 use Rattle.block_tree.specs.Tree.{Blocks}
 use Rattle.image_model.specs.Slots.{held_at}
-use Rattle.name_check.specs.Blocks.{blocks_held}
-use Rattle.name_check.specs.declared.blocks.NodeBlock.{NodeBlock}
+use Rattle.image_walk.specs.Blocks.{blocks_held}
+use Rattle.image_walk.specs.declared.node_block.NodeBlock.{NodeBlock}
 
 -- whether a file's last block, of those in a list, has a byte past the size that isn't 0
 abbrev pub has_tail_in : Blocks → List NodeBlock → ℕ → ℕ → Bool

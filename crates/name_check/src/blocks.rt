@@ -2,18 +2,10 @@
 ghost use Rattle.std.specs.Prelude.{◌≡◌, ◌<◌, ◌≤◌, ◌==◌, ℕ, filter, length, IfSome, IfNone, []};
 ghost use Rattle.block_tree.specs.Tree.{Blocks};
 ghost use Rattle.image_model.specs.Slots.{held_at};
-ghost use Rattle.name_check.specs.Blocks.{NeverFall, AreOnDisk, number_at, blocks_held};
+ghost use Rattle.image_walk.specs.Blocks.{NeverFall, AreOnDisk, number_at, blocks_held};
 
-use vol_numbers::{BlockNo, Fbn, InoNo};
-
-/// A block of a file or a directory.
-#[derive(Clone, Copy, Debug, PartialEq, Eq)]
-pub struct NodeBlock {
-    /// The file or the directory.
-    pub number: InoNo,
-    pub place: Fbn,
-    pub block: BlockNo,
-}
+use image_walk::NodeBlock;
+use vol_numbers::{BlockNo, InoNo};
 
 /// How many blocks are of nodes below a number.
 fn below(blocks: &[NodeBlock], number: u64) -> usize

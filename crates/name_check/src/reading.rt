@@ -3,12 +3,13 @@ ghost use Rattle.std.specs.Prelude.{◌≡◌, ◌<◌, IfOk, ◌++◌, ◌∷�
 ghost use Rattle.vol_numbers.specs.Cause.{HasCause};
 ghost use Rattle.disk_model.specs.Past.{Adds};
 ghost use Rattle.block_tree.specs.Tree.{blocks_in};
-ghost use Rattle.name_check.specs.Blocks.{AreOnDisk};
+ghost use Rattle.image_walk.specs.Blocks.{AreOnDisk};
 ghost use Rattle.name_check.specs.Cause.{HasNameCause, IsNoFinding};
 ghost use Rattle.name_check.specs.Directories.{HaveBytes};
 
-use crate::{NameFault, NodeBlock};
+use crate::NameFault;
 use disk_model::{Disk, DiskFault};
+use image_walk::NodeBlock;
 use std::alloc::{AllocError, Global};
 use vol_numbers::{Block, BlockNo, Page, PageList};
 

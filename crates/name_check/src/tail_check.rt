@@ -8,14 +8,15 @@ ghost use Rattle.block_tree.specs.Tree.{blocks_in};
 ghost use Rattle.image_model.specs.Nodes.{tail_finding, has_tail};
 ghost use Rattle.image_model.specs.Seen.{Seen};
 ghost use Rattle.image_model.specs.declared.finding.Finding.TheVariants.{BadTail};
-ghost use Rattle.name_check.specs.Blocks.{NeverFall, AreOnDisk};
-ghost use Rattle.name_check.specs.Seeing.{SeesEnds};
+ghost use Rattle.image_walk.specs.Blocks.{NeverFall, AreOnDisk};
+ghost use Rattle.image_walk.specs.Left.{SeesEnds};
 ghost use Rattle.name_check.specs.Tails.{has_tail_in, node_has_tail};
 
-use crate::blocks::{NodeBlock, block_at};
+use crate::blocks::block_at;
 use crate::reading::read_block;
 use block_format::Inode;
 use disk_model::{Disk, DiskFault};
+use image_walk::NodeBlock;
 use vol_numbers::{BlockNo, InoNo};
 
 /// The first of the nodes that is a file with a byte past its size that isn't 0. Each last block is read once.

@@ -1,7 +1,8 @@
 //! The image as it was drawn.
 use crate::image::{BLOCKS, INDEX, draw, walked};
 use block_format::Inode;
-use image_walk::{LastBlock, Mark, PagePlace, Walked};
+use disk_model::Disk;
+use image_walk::{Mark, NodeBlock, Walked};
 use mem_disk::MemDisk;
 use std::alloc::Global;
 use std::test::Fail;
@@ -34,19 +35,22 @@ const NODES: &[(InoNo, Inode)] = &[
     ),
 ];
 
-const PAGES: &[PagePlace] = &[PagePlace {
+const PAGES: &[NodeBlock] = &[NodeBlock {
     number: 1,
     place: 0,
     block: 103,
 }];
 
-const LASTS: &[LastBlock] = &[
-    LastBlock {
+/// The last place of number 2 is 1, that of number 3 is 0.
+const LASTS: &[NodeBlock] = &[
+    NodeBlock {
         number: 2,
+        place: 1,
         block: 106,
     },
-    LastBlock {
+    NodeBlock {
         number: 3,
+        place: 0,
         block: 105,
     },
 ];
@@ -89,15 +93,20 @@ fn is_all(walked: &Walked) -> bool {
     walked.lasts.as_slice() == LASTS && are_marked(walked)
 }
 
+/// Whether all of the image is reached on a disk of zeros that it is drawn on.
+fn is_reached_on<D: Disk>(alloc: Global, disk: &mut D) -> bool {
+    if !draw(disk) {
+        return false;
+    }
+    match walked(alloc, disk, INDEX) {
+        Some(Ok(walked)) => is_all(&walked),
+        Some(Err(_)) | None => false,
+    }
+}
+
 fn is_reached(alloc: Global) -> Result<bool, Fail> {
     let mut disk = MemDisk::new(alloc, BLOCKS)?;
-    if !draw(&mut disk) {
-        return Ok(false);
-    }
-    match walked(alloc, &mut disk, INDEX) {
-        Some(Ok(walked)) => Ok(is_all(&walked)),
-        Some(Err(_)) | None => Ok(false),
-    }
+    Ok(is_reached_on(alloc, &mut disk))
 }
 
 #[test]

@@ -7,6 +7,7 @@ use Rattle.image_model.specs.Walk.{nodes_of}
 use Rattle.image_walk.specs.Going.{Goes, Walks}
 use Rattle.image_walk.proofs.GoingLaws.{goes_none, walks_device}
 use Rattle.image_walk.proofs.InodeLaws.{block_none, inodes_none, block_some}
+use Rattle.image_walk.proofs.OrderLaws.{nodes_none}
 use Rattle.image_walk.proofs.inodes.walk_block.Goals as goal
 
 pub returns-then-at-eq0-clause-walked : goal.returns-then-at-eq0-clause-walked
@@ -24,3 +25,6 @@ pub returns-clause-walked : goal.returns-clause-walked
 returns-clause-walked g c tells marks =
     subst (λ (ms : List Met). Walks (layout_of c.args.g.now) marks marks ms c.meet_block.result)
     (sym (block_some (blocks_in (g.D.Disk.state c.args.disk.now).contents) c.args.first c.args.at c.in_ok-block.block.bytes c.if-at-eq0.false (c.in_ok-block.ensures.bytes tells))) (c.meet_block.ensures.walked marks)
+
+pub returns-then-at-eq0-clause-grows : goal.returns-then-at-eq0-clause-grows
+returns-then-at-eq0-clause-grows g c = nodes_none _ _ _

@@ -9,12 +9,15 @@ use Rattle.image_walk.specs.Going.{Goes, EndsBy}
 use Rattle.image_walk.specs.Inodes.{block_at, inodes_at}
 use Rattle.image_walk.proofs.GoingLaws.{walks_err, part_start, part_next, part_ends, part_end}
 use Rattle.image_walk.proofs.InodeLaws.{blocks_next, gathered_none, gathered_next, gathered_all}
+use Rattle.image_walk.specs.Order.{NodesGrow}
+use Rattle.image_walk.proofs.OrderLaws.{nodes_none, nodes_then}
 use Rattle.image_walk.proofs.inodes.walk_inodes.Goals as goal
 
 pub loop-k-init : goal.loop-k-init
 loop-k-init g c = record {
   part = λ tells marks. part_start _ _ _;
   gathered = λ tells. gathered_none _ _ _;
+  grows = nodes_none _ _ _;
   same = λ tells. refl;
   moments = λ tells. adds_none _ _;
   fixed = refl;
@@ -47,6 +50,8 @@ loop-k-preserved g c =
       gathered = λ tells.
           gathered_next read es k c.args.nodes.now.items c.loop-k.nodes.items c.walk_block.new.nodes.items (omega arith) (inv.gathered tells)
           (subst (λ (s : State). c.walk_block.new.nodes.items ≡ c.loop-k.nodes.items ++ nodes_of (inodes_at (blocks_in s.contents) (64 * k) (get_or es k 0))) (inv.same tells) (c.in_ok-walk_block.ensures.nodes tells));
+      grows = nodes_then 0 (64 * k) (64 * (k + 1)) _ _ _ (omega arith) (omega arith) inv.grows
+          (subst (λ (high : ℕ). NodesGrow (64 * k) high c.loop-k.nodes.items c.walk_block.new.nodes.items) (omega arith) c.in_ok-walk_block.ensures.grows);
       same = λ tells. c.in_ok-walk_block.ensures.same tells ∙ inv.same tells;
       moments = λ tells. adds_read (inv.moments tells) (inv.same tells) (c.in_ok-walk_block.ensures.moments tells);
       fixed = c.in_ok-walk_block.ensures.fixed ∙ inv.fixed;
@@ -62,3 +67,6 @@ returns-clause-walked g c tells marks =
     let es : List ℕ = c.args.entries.now in
     let k : ℕ = c.loop-k.k in
     part_end (layout_of c.args.g.now) marks marks (blocks_met read 0 es) (blocks_met read (64 * k) (drop k es)) (c.loop-k.invariant.part tells marks) (ap (blocks_met read (64 * k)) (drop_all k es (omega arith)))
+
+pub returns-clause-grows : goal.returns-clause-grows
+returns-clause-grows g c = let k : ℕ = c.loop-k.k in subst (λ (high : ℕ). NodesGrow 0 high c.args.nodes.now.items c.loop-k.nodes.items) (omega arith) c.loop-k.invariant.grows

@@ -6,6 +6,7 @@ use Rattle.image_walk.specs.Kept.{lasts_of}
 use Rattle.image_walk.specs.Trees.{owner_met, place_met, Stretch}
 use Rattle.image_walk.proofs.TreeLaws.{passes_err, stretch_start, stretch_ends, owner_next}
 use Rattle.image_walk.proofs.NodeLaws.{places_next}
+use Rattle.image_walk.proofs.OrderLaws.{keeps_none, keeps_then}
 use Rattle.image_walk.proofs.trees.meet_places.Goals as goal
 
 pub loop-i-init : goal.loop-i-init
@@ -16,6 +17,7 @@ loop-i-init c =
     record {
       stretch = subst (λ (n : ℕ). Stretch (layout_of c.args.g.now) c.args.reached.now c.args.reached.now whole (places_met (owner_met o) o.blocks n c.args.ptrs.now) (lasts_of o.blocks whole) (lasts_of o.blocks (places_met (owner_met o) o.blocks n c.args.ptrs.now))) e
           (stretch_start (layout_of c.args.g.now) c.args.reached.now whole (lasts_of o.blocks whole));
+      keeps = keeps_none _ _ _;
       long = c.requires.marks;
     }
 
@@ -36,5 +38,6 @@ loop-i-preserved c =
     record {
       stretch = owner_next (layout_of c.args.g.now) c.args.reached.now c.loop-i.reached c.meet_place.new.reached o.blocks _ _ (place_met o (c.args.place + i) (get_or ptrs i 0)) (places_met (owner_met o) o.blocks (c.args.place + (i + 1)) (drop (i + 1) ptrs))
           c.loop-i.invariant.stretch (places_next o c.args.place i ptrs (omega arith)) c.in_ok-meet_place.ensures.walked;
+      keeps = keeps_then _ _ _ _ _ c.loop-i.invariant.keeps c.in_ok-meet_place.ensures.keeps;
       long = c.in_ok-meet_place.ensures.walked.marks.long ∙ c.loop-i.invariant.long;
     }

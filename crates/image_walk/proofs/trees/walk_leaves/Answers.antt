@@ -10,6 +10,7 @@ use Rattle.image_walk.specs.Kept.{lasts_of}
 use Rattle.image_walk.specs.Trees.{owner_met, Passes}
 use Rattle.image_walk.proofs.TreeLaws.{passes_err, stretch_start, stretch_ends, owner_next}
 use Rattle.image_walk.proofs.NodeLaws.{leaves_next}
+use Rattle.image_walk.proofs.OrderLaws.{keeps_none, keeps_then}
 use Rattle.image_walk.proofs.trees.walk_leaves.Goals as goal
 
 pub returns-in_err-walk_leaf-clause-walked : goal.returns-in_err-walk_leaf-clause-walked
@@ -37,6 +38,7 @@ loop-k-preserved g c =
           owner_next lay c.args.reached.now c.loop-k.reached c.walk_leaf.new.reached o.blocks _ _ (leaf_met read (owner_met o) o.blocks (1024 * k) (get_or tops k 0)) (leaves_met read (owner_met o) o.blocks (1024 * (k + 1)) (drop (k + 1) tops))
           (inv.stretch tells) (leaves_next read o k tops (omega arith))
           (subst (λ (s : State). let one : List Met = leaf_met (blocks_in s.contents) (owner_met o) o.blocks (1024 * k) (get_or tops k 0) in Passes lay c.loop-k.reached c.walk_leaf.new.reached one (lasts_of o.blocks one)) (inv.same tells) (c.in_ok-walk_leaf.ensures.walked tells));
+      keeps = keeps_then _ _ _ _ _ inv.keeps c.in_ok-walk_leaf.ensures.keeps;
       long = c.in_ok-walk_leaf.ensures.long ∙ inv.long;
       same = λ tells. c.in_ok-walk_leaf.ensures.same tells ∙ inv.same tells;
       moments = λ tells. adds_read (inv.moments tells) (inv.same tells) (c.in_ok-walk_leaf.ensures.moments tells);
@@ -47,6 +49,7 @@ loop-k-preserved g c =
 pub loop-k-init : goal.loop-k-init
 loop-k-init g c = record {
   stretch = λ tells. stretch_start _ _ _ _;
+  keeps = keeps_none _ _ _;
   long = c.requires.marks;
   same = λ tells. refl;
   moments = λ tells. adds_none _ _;

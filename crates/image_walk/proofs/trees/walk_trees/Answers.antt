@@ -1,5 +1,6 @@
 use Rattle.std.proofs.Common.{◌+◌, ◌∙◌, ℕ, List, refl, subst, arith, drop, get_or}
 use Rattle.std.specs.List.{flat_map}
+use Rattle.std.proofs.lemmas.List.{drop_all, drop_more}
 use Rattle.vol_numbers.specs.Geometry.{layout_of}
 use Rattle.disk_model.specs.Disk.{State}
 use Rattle.disk_model.proofs.Moments.{adds_none, adds_read}
@@ -8,14 +9,17 @@ use Rattle.block_tree.specs.Tree.{blocks_in}
 use Rattle.image_model.specs.Walk.{node_met}
 use Rattle.image_walk.specs.Going.{EndsBy}
 use Rattle.image_walk.specs.Kept.{node_lasts, all_lasts}
+use Rattle.image_walk.specs.Order.{InOrder}
 use Rattle.image_walk.specs.Trees.{Passes}
 use Rattle.image_walk.proofs.TreeLaws.{passes_err, stretch_start, stretch_next, stretch_ends}
 use Rattle.image_walk.proofs.NodeLaws.{no_node, nodes_next, lasts_next}
+use Rattle.image_walk.proofs.OrderLaws.{order_next}
 use Rattle.image_walk.proofs.trees.walk_trees.Goals as goal
 
 pub loop-node-init : goal.loop-node-init
 loop-node-init g c = record {
   stretch = λ tells. stretch_start _ _ _ _;
+  order = c.requires.order;
   long = c.requires.marks;
   same = λ tells. refl;
   moments = λ tells. adds_none _ _;
@@ -47,9 +51,13 @@ loop-node-preserved g c =
           (all_lasts read nodes) (all_lasts read (drop i nodes)) (node_lasts read (get_or nodes i no_node)) (all_lasts read (drop (i + 1) nodes))
           (inv.stretch tells) (nodes_next read nodes i (omega arith)) (lasts_next read nodes i (omega arith))
           (subst (λ (s : State). Passes lay c.loop-node.reached c.walk_node.new.reached (node_met (blocks_in s.contents) (get_or nodes i no_node)) (node_lasts (blocks_in s.contents) (get_or nodes i no_node))) (inv.same tells) (c.in_ok-walk_node.ensures.walked tells));
+      order = order_next _ (drop i nodes) (drop (i + 1) nodes) (get_or nodes i no_node) _ _ (drop_more nodes i no_node (omega arith)) inv.order c.in_ok-walk_node.ensures.keeps;
       long = c.in_ok-walk_node.ensures.long ∙ inv.long;
       same = λ tells. c.in_ok-walk_node.ensures.same tells ∙ inv.same tells;
       moments = λ tells. adds_read (inv.moments tells) (inv.same tells) (c.in_ok-walk_node.ensures.moments tells);
       fixed = c.in_ok-walk_node.ensures.fixed ∙ inv.fixed;
       faults = c.in_ok-walk_node.ensures.cause ∙ inv.faults;
     }
+
+pub returns-clause-order : goal.returns-clause-order
+returns-clause-order g c = subst (λ (left : List (ℕ × Inode)). InOrder (layout_of c.args.g.now).blocks left c.loop-node.reached) (drop_all c.loop-node.node-index c.args.nodes.now (omega arith)) c.loop-node.invariant.order

@@ -1,10 +1,9 @@
-use Rattle.std.proofs.Common.{◌≡◌, ◌<◌, ◌≤◌, ℕ, true, false, rules, arith, length}
+use Rattle.std.proofs.Common.{◌≡◌, true, false, rules, arith}
 use Rattle.std.specs.Prelude.{nat_lt}
-use Rattle.std.specs.List.Sorted.{IsPartitionPoint}
 use Rattle.std.proofs.lemmas.Bool.Decides.{nat_tests}
 use Rattle.std.proofs.lemmas.List.Sorted.{IsPartitionPoint-from_clause, IsPartitionedBy-ltb, IsNonDecreasingBy-from_default}
-use Rattle.name_check.specs.declared.blocks.NodeBlock.{NodeBlock}
-use Rattle.name_check.specs.Blocks.{number_at}
+use Rattle.image_walk.specs.declared.node_block.NodeBlock.{NodeBlock}
+use Rattle.image_walk.specs.Blocks.{number_at}
 use Rattle.name_check.proofs.blocks.below.Goals as goal
 
 pub returns-clause-before : goal.returns-clause-before

@@ -2,8 +2,8 @@ use Rattle.std.proofs.Common.{◌≡◌, ◌<◌, ◌+◌, ◌∙◌, List, leng
 use Rattle.std.proofs.lemmas.Bool.{eq-eqb}
 use Rattle.std.proofs.lemmas.List.{drop_more}
 use Rattle.image_model.specs.Slots.{held_at}
-use Rattle.name_check.specs.declared.blocks.NodeBlock.{NodeBlock}
-use Rattle.name_check.specs.Blocks.{blocks_held}
+use Rattle.image_walk.specs.declared.node_block.NodeBlock.{NodeBlock}
+use Rattle.image_walk.specs.Blocks.{blocks_held}
 use Rattle.name_check.proofs.RunLaws.{own, held_own, own_at, own_on_disk, this_place}
 use Rattle.name_check.proofs.blocks.block_at.Goals as goal
 

@@ -1,7 +1,7 @@
 use Rattle.std.proofs.Common.{◌≡◌, drop}
 use Rattle.block_tree.specs.Tree.{Blocks}
 use Rattle.image_model.specs.Slots.{held_at}
-use Rattle.name_check.specs.Blocks.{blocks_held}
+use Rattle.image_walk.specs.Blocks.{blocks_held}
 use Rattle.name_check.proofs.RunLaws.{own}
 use Rattle.name_check.proofs.blocks.block_at.Given as goal
 

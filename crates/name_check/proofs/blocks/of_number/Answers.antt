@@ -1,5 +1,5 @@
 use Rattle.std.proofs.Common.{◌<◌, ◌≤◌, ◌+◌, ℕ, length, subst}
-use Rattle.name_check.specs.Blocks.{number_at}
+use Rattle.image_walk.specs.Blocks.{number_at}
 use Rattle.name_check.proofs.RunLaws.{run_from}
 use Rattle.name_check.proofs.blocks.of_number.Goals as goal
 

@@ -1,9 +1,9 @@
 use Rattle.std.proofs.Common.{◌≡◌, ◌∙◌, refl, sym, ap, subst, List, length, IsTrue, arith}
 use Rattle.block_tree.specs.Tree.{blocks_in}
 use Rattle.dir_slots.specs.Pages.{pages_for}
-use Rattle.name_check.specs.Blocks.{AreOnDisk}
+use Rattle.image_walk.specs.Blocks.{AreOnDisk}
 use Rattle.name_check.specs.Directories.{HaveBytes, IsRead, FindsBad}
-use Rattle.name_check.specs.declared.blocks.NodeBlock.{NodeBlock}
+use Rattle.image_walk.specs.declared.node_block.NodeBlock.{NodeBlock}
 use Rattle.name_check.proofs.BadLaws.{all_read, all_bad, wrong_count_is_bad, if_ok_under, if_err_under}
 use Rattle.name_check.proofs.RunLaws.{own_on_disk}
 use Rattle.name_check.proofs.directory_check.read_directory.Goals as goal

@@ -11,5 +11,5 @@ pub returns-clause-walked : goal.returns-clause-walked
 returns-clause-walked c = record {
   marks = c.in_ok-meet_content.ensures.walked c.args.owner.now.number c.args.place;
   pages = sym (append-nil c.args.self.now.pages.items);
-  kept = c.in_ok-keep_last.ensures;
+  kept = c.in_ok-keep_last.ensures.kept;
 }

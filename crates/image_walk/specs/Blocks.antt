@@ -2,7 +2,7 @@
 use Rattle.std.specs.Prelude.{ℕ, ◌<◌, ◌≤◌, List, map, length, slice_index_or}
 use Rattle.block_tree.specs.Tree.{Blocks}
 use Rattle.image_model.specs.Seen.{SeenBlock}
-use Rattle.name_check.specs.declared.blocks.NodeBlock.{NodeBlock}
+use Rattle.image_walk.specs.declared.node_block.NodeBlock.{NodeBlock}
 
 -- a block with its bytes
 abbrev pub block_held : Blocks → NodeBlock → SeenBlock
