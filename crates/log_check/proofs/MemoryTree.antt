@@ -31,7 +31,8 @@ use Rattle.image_model.proofs.TreeBuilt.{tree_exists}
 use Rattle.name_check.specs.Seeing.{HoldsDirectories, directory_numbers}
 use Rattle.node_table.specs.Held.{Nodes}
 use Rattle.log_check.specs.Accepting.{HoldsATree}
-use Rattle.log_check.specs.Holding.{AreNodes, IsWithin, IsTableOf, FindsNoneLost}
+use Rattle.image_walk.specs.Left.{IsWithin}
+use Rattle.log_check.specs.Holding.{AreNodes, IsTableOf, FindsNoneLost}
 use Rattle.log_check.proofs.MemorySeen.{AllFit, filled, fits_append, memory_seen, memory_slots, seen_slots}
 use Rattle.log_check.proofs.TableLaws.{distinct, no_directory, some_directory, as_wide, holds_each}
 

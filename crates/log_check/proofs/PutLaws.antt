@@ -18,7 +18,8 @@ use Rattle.image_model.proofs.NodePlaces.{numbers}
 use Rattle.node_table.specs.Held.{Nodes, held}
 use Rattle.node_table.specs.declared.held.HeldNode.{HeldNode}
 use Rattle.node_table.specs.declared.held.HeldNode.TheVariants.{File, Directory}
-use Rattle.log_check.specs.Holding.{AreNodes, IsWithin, IsTableOf, node_held}
+use Rattle.image_walk.specs.Left.{IsWithin}
+use Rattle.log_check.specs.Holding.{AreNodes, IsTableOf, node_held}
 use Rattle.log_check.proofs.AcceptLemmas.{take_next}
 use Rattle.log_check.proofs.TableLaws.{distinct, no_directory, some_directory, inode_behind}
 

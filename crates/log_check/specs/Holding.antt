@@ -1,9 +1,8 @@
 -- A table of nodes that is made of inodes and directories in memory.
-use Rattle.std.specs.Prelude.{◌≡◌, ◌≤◌, ℕ, true, List, map, length, Contains, Option, Some, None}
+use Rattle.std.specs.Prelude.{◌≡◌, ℕ, true, List, map, Option, Some, None}
 use Rattle.std.specs.Option.{option_map}
 use Rattle.block_format.specs.declared.inode.Inode.{Inode}
 use Rattle.block_format.specs.declared.inode.Inode.TheVariants as inodes
-use Rattle.block_format.specs.declared.slot.Slot.{Slot}
 use Rattle.held_list.specs.Held.{slots_at}
 use Rattle.held_list.specs.declared.held.Held.{Held as Directories}
 use Rattle.place_words.specs.Rising.{Rising}
@@ -13,25 +12,20 @@ use Rattle.image_model.specs.Nodes.{tree_finding}
 use Rattle.image_model.specs.Seen.{Seen}
 use Rattle.image_model.specs.Slots.{inode_of}
 use Rattle.image_model.specs.Walk.{is_directory}
-use Rattle.name_check.specs.Seeing.{HoldsDirectories, directory_numbers}
+use Rattle.image_walk.specs.Left.{AreWithin}
+use Rattle.name_check.specs.Seeing.{HoldsDirectories, HaveSlots, directory_numbers}
 use Rattle.node_table.specs.Held.{Nodes, HoldsNodes, held}
 use Rattle.node_table.specs.declared.held.HeldNode.{HeldNode}
 use Rattle.node_table.specs.declared.held.HeldNode.TheVariants.{File, Directory}
-
--- an inode is used, and its size or its width is within the limit
-abbrev pub IsWithin : Inode → Type 0
-IsWithin inodes.Unused = ⊥
-IsWithin (inodes.File size height ptr) = size ≤ 4294967296
-IsWithin (inodes.Directory width height ptr) = width ≤ 65534
 
 -- Nodes as a walk leaves them, and the directories among them: the numbers rise from 1 to 65,535 at most, number 1 is a directory, and each directory is held
 -- under its number with as many slots as its inode says.
 pub record AreNodes (nodes : List (ℕ × Inode)) (directories : List Directories) : Type 0 where
   pub rising : Rising 1 (map (λ node. node.0) nodes)
-  pub each : (n : ℕ) (inode : Inode) → Contains nodes (n, inode) → (n ≤ 65535) × IsWithin inode
+  pub each : AreWithin nodes
   pub root : is_directory (inode_of nodes 1) ≡ true
   pub numbers : map (λ h. h.number) directories ≡ directory_numbers nodes
-  pub widths : (n width height ptr : ℕ) (slots : List Slot) → Contains nodes (n, inodes.Directory width height ptr) → slots_at directories n ≡ Some slots → length slots ≡ width
+  pub widths : HaveSlots nodes directories
 
 -- the node of an inode: a file with its size, or the directory of this number
 abbrev pub node_held : List Directories → ℕ → Inode → Option HeldNode
