@@ -1,7 +1,7 @@
 -- Numbers of nodes, and of the blocks that are kept of them, in their order.
 use Rattle.std.proofs.Common.{◌≡◌, ◌<◌, ◌≤◌, ℕ, zero, suc, ◌+◌, ◌*◌, Bool, true, false, not, cond, List, [], ◌∷◌, ◌++◌, length, take, drop, map, replicate, refl, sym, ap, subst, ◌∙◌, arith}
-use Rattle.std.specs.Prelude.{◌==◌, ◌&&◌, nat_le, Option, Some, None}
-use Rattle.std.specs.List.{flat_map}
+use Rattle.std.specs.Prelude.{◌==◌, ◌&&◌, nat_le, Option, Some, None, ◌||◌, Result, Ok, Err, OnOk}
+use Rattle.std.specs.List.{flat_map, list_any}
 use Rattle.std.proofs.lemmas.List.{append_assoc, append-nil}
 use Rattle.std.proofs.lemmas.List.Concat.{flat_map-cons}
 use Rattle.std.proofs.lemmas.Bool.Decides.{nat_tests}
@@ -12,13 +12,14 @@ use Rattle.block_format.specs.declared.inode.Inode.{Inode}
 use Rattle.block_format.specs.declared.inode.Inode.TheVariants.{Unused, File, Directory}
 use Rattle.image_model.specs.Met.{Met, not_inode, stray}
 use Rattle.image_model.specs.Findings.{◌then◌, walk_finding}
-use Rattle.image_model.specs.Walk.{is_used, is_stray, is_good, is_pointer_wrong, bad_met, inodes_from, nodes_of}
+use Rattle.image_model.specs.Slots.{inode_of}
+use Rattle.image_model.specs.Walk.{is_used, is_stray, is_good, is_pointer_wrong, bad_met, inodes_from, is_directory, nodes_of, root_met}
 use Rattle.image_model.specs.declared.finding.Finding.{Finding}
 use Rattle.image_walk.specs.Blocks.{number_at, NeverFall, AreOnDisk}
 use Rattle.image_walk.specs.Going.{Goes, reached_after}
-use Rattle.image_walk.specs.Left.{HaveWidths}
+use Rattle.image_walk.specs.Left.{AreWithin, HaveWidths, IsWithin}
 use Rattle.image_walk.specs.Marks.{no_mark}
-use Rattle.image_walk.specs.Order.{IsNarrow, NodesRise, NodesGrow, AllOwn, BlocksGrow, KeepsOf, Ordered, InOrder}
+use Rattle.image_walk.specs.Order.{IsNode, NodesRise, NodesGrow, AllOwn, BlocksGrow, KeepsOf, Ordered, InOrder}
 use Rattle.image_walk.specs.declared.marks.Mark.{Mark}
 use Rattle.image_walk.specs.declared.node_block.NodeBlock.{NodeBlock}
 use Rattle.image_walk.specs.declared.reached.Reached.{Reached}
@@ -129,38 +130,57 @@ both_none : (a b : Option Finding) → (a then b) ≡ None → (a ≡ None) × (
 both_none None b none = (refl, none)
 both_none (Some f) b none = cc
 
-narrow_shape : (x : Inode) (t u : Bool) → ((inode_shape x && t) && u) ≡ true → IsNarrow x
-narrow_shape Unused t u is = tt
-narrow_shape (File size height ptr) t u is = tt
-narrow_shape (Directory width height ptr) t u is = by (nat_le width 65534) (node_fits (256 * width) height ptr) refl is
+and_left : (a b : Bool) → (a && b) ≡ true → a ≡ true
+and_left true b e = refl
+and_left false b e = cc
+
+and_right : (a b : Bool) → (a && b) ≡ true → b ≡ true
+and_right true b e = e
+and_right false b e = cc
+
+not_zero : (n : ℕ) → not (n == 0) ≡ true → 1 ≤ n
+not_zero n e = by (n == 0) refl e
   where
-    by : (s v : Bool) → nat_le width 65534 ≡ s → (((s && v) && t) && u) ≡ true → width ≤ 65534
-    by true v e all = grind (arith, nat_tests)
-    by false v e all = cc
+    by : (t : Bool) → (n == 0) ≡ t → not t ≡ true → 1 ≤ n
+    by true is e = cc
+    by false is e = grind (arith, nat_tests)
 
-narrow_stray : (x : Inode) (t u : Bool) → ((is_stray x && t) && u) ≡ true → IsNarrow x
-narrow_stray Unused t u is = tt
-narrow_stray (File size height ptr) t u is = tt
-narrow_stray (Directory width height ptr) t u is = by (width == 0) (height == 0) (not (ptr == 0)) refl is
-  where
-    by : (s v w : Bool) → (width == 0) ≡ s → ((((s && v) && w) && t) && u) ≡ true → width ≤ 65534
-    by true v w e all = grind (arith, nat_tests)
-    by false v w e all = cc
+zero_of : (t u : Bool) → u ≡ true → not (t && u) ≡ true → not t ≡ true
+zero_of true u used e = sym (ap not used) ∙ e
+zero_of false u used e = refl
 
-narrow_by : (g : Layout) (reached : List ℕ) (n p : ℕ) (x : Inode) (t u : Bool) → (t ≡ true → IsNarrow x) → (u ≡ true → IsNarrow x)
-    → walk_finding g reached (cond t [] (cond u (stray n p ∷ []) (not_inode n ∷ []))) ≡ None → IsNarrow x
-narrow_by g reached n p x true u good wrong none = good refl
-narrow_by g reached n p x false true good wrong none = wrong refl
-narrow_by g reached n p x false false good wrong none = cc
+node_shape : (n : ℕ) (x : Inode) (t : Bool) → is_used x ≡ true → ((inode_shape x && t) && not (n == 0 && is_used x)) ≡ true → IsNode (n, x)
+node_shape n Unused t used is = cc
+node_shape n (File size height ptr) t used is =
+    let shape = and_left (nat_le size 4294967296) (node_fits size height ptr) (and_left (nat_le size 4294967296 && node_fits size height ptr) t (and_left _ (not (n == 0 && true)) is)) in
+    (not_zero n (zero_of (n == 0) true refl (and_right (inode_shape (File size height ptr) && t) (not (n == 0 && true)) is)), grind (arith, nat_tests))
+node_shape n (Directory width height ptr) t used is =
+    let shape = and_left (nat_le width 65534) (node_fits (256 * width) height ptr) (and_left (nat_le width 65534 && node_fits (256 * width) height ptr) t (and_left _ (not (n == 0 && true)) is)) in
+    (not_zero n (zero_of (n == 0) true refl (and_right (inode_shape (Directory width height ptr) && t) (not (n == 0 && true)) is)), grind (arith, nat_tests))
 
-narrow_met : (g : Layout) (reached : List ℕ) (n : ℕ) (bytes : List ℕ) → walk_finding g reached (bad_met (n, bytes)) ≡ None → IsNarrow (inode_in bytes)
-narrow_met g reached n bytes none =
-    narrow_by g reached n (pointer_of (inode_in bytes)) (inode_in bytes) (is_good (n, bytes)) (is_pointer_wrong (n, bytes))
-    (λ is. narrow_shape (inode_in bytes) _ _ is) (λ is. narrow_stray (inode_in bytes) _ _ is) none
+node_stray : (n : ℕ) (x : Inode) (t : Bool) → is_used x ≡ true → ((is_stray x && t) && not (n == 0)) ≡ true → IsNode (n, x)
+node_stray n Unused t used is = cc
+node_stray n (File size height ptr) t used is =
+    let none = and_left (size == 0) (height == 0) (and_left (size == 0 && height == 0) (not (ptr == 0)) (and_left (is_stray (File size height ptr)) t (and_left _ (not (n == 0)) is))) in
+    (not_zero n (and_right (is_stray (File size height ptr) && t) (not (n == 0)) is), grind (arith, nat_tests))
+node_stray n (Directory width height ptr) t used is =
+    let none = and_left (width == 0) (height == 0) (and_left (width == 0 && height == 0) (not (ptr == 0)) (and_left (is_stray (Directory width height ptr)) t (and_left _ (not (n == 0)) is))) in
+    (not_zero n (and_right (is_stray (Directory width height ptr) && t) (not (n == 0)) is), grind (arith, nat_tests))
 
-used_rise : (t : Bool) (low high : ℕ) (x : Inode) (rest : List (ℕ × Inode)) → low < high → IsNarrow x → NodesRise (low + 1) high rest → NodesRise low high (cond t ((low, x) ∷ rest) rest)
-used_rise true low high x rest lt narrow more = (omega arith, lt, narrow, more)
-used_rise false low high x rest lt narrow more = rise_less low (low + 1) high rest (omega arith) more
+node_by : (g : Layout) (reached : List ℕ) (n p : ℕ) (x : Inode) (t u : Bool) → (t ≡ true → IsNode (n, x)) → (u ≡ true → IsNode (n, x))
+    → walk_finding g reached (cond t [] (cond u (stray n p ∷ []) (not_inode n ∷ []))) ≡ None → IsNode (n, x)
+node_by g reached n p x true u good wrong none = good refl
+node_by g reached n p x false true good wrong none = wrong refl
+node_by g reached n p x false false good wrong none = cc
+
+node_met : (g : Layout) (reached : List ℕ) (n : ℕ) (bytes : List ℕ) → is_used (inode_in bytes) ≡ true → walk_finding g reached (bad_met (n, bytes)) ≡ None → IsNode (n, inode_in bytes)
+node_met g reached n bytes used none =
+    node_by g reached n (pointer_of (inode_in bytes)) (inode_in bytes) (is_good (n, bytes)) (is_pointer_wrong (n, bytes))
+    (λ is. node_shape n (inode_in bytes) _ used is) (λ is. node_stray n (inode_in bytes) _ used is) none
+
+used_rise : (t : Bool) (low high : ℕ) (x : Inode) (rest : List (ℕ × Inode)) → low < high → (t ≡ true → IsNode (low, x)) → NodesRise (low + 1) high rest → NodesRise low high (cond t ((low, x) ∷ rest) rest)
+used_rise true low high x rest lt node more = (omega arith, lt, node refl, more)
+used_rise false low high x rest lt node more = rise_less low (low + 1) high rest (omega arith) more
 
 inodes_rise : (g : Layout) (reached : List ℕ) (m first : ℕ) (bytes : List ℕ) → walk_finding g reached (flat_map bad_met (inodes_from m first bytes)) ≡ None
     → NodesRise first (first + m) (nodes_of (inodes_from m first bytes))
@@ -171,7 +191,7 @@ inodes_rise g reached (suc m) first bytes none =
     let rest : List (ℕ × List ℕ) = inodes_from m (first + 1) (drop 64 bytes) in
     let parts = both_none (walk_finding g reached one) (walk_finding g (reached_after reached one) (flat_map bad_met rest))
     (sym (finding_append g reached one (flat_map bad_met rest)) ∙ ap (walk_finding g reached) (sym (flat_map-cons bad_met (first, take 64 bytes) rest)) ∙ none) in
-    used_rise (is_used (inode_in (take 64 bytes))) first (first + suc m) (inode_in (take 64 bytes)) (nodes_of rest) (omega arith) (narrow_met g reached first (take 64 bytes) parts.0)
+    used_rise (is_used (inode_in (take 64 bytes))) first (first + suc m) (inode_in (take 64 bytes)) (nodes_of rest) (omega arith) (λ used. node_met g reached first (take 64 bytes) used parts.0)
     (subst (λ (high : ℕ). NodesRise (first + 1) high (nodes_of rest)) (omega arith) (inodes_rise g (reached_after reached one) m (first + 1) (drop 64 bytes) parts.1))
 
 pub block_grows : (g : Layout) (first : ℕ) (bytes : List ℕ) (old new : List (ℕ × Inode)) → ((marks : List Mark) → Goes g marks marks (flat_map bad_met (inodes_from 64 first bytes)))
@@ -182,18 +202,73 @@ block_grows g first bytes old new goes is = record {
   rise = inodes_rise g [] 64 first bytes ((goes (replicate 0 no_mark)).fine [] (says_nothing 0));
 }
 
-pub all_rise : (low high : ℕ) (nodes : List (ℕ × Inode)) → NodesRise low high nodes → Rising low (map (λ (node : ℕ × Inode). node.0) nodes)
+one_at_least : (n : ℕ) (x : Inode) → IsNode (n, x) → 1 ≤ n
+one_at_least n Unused node = absurd node
+one_at_least n (File size height ptr) node = node.0
+one_at_least n (Directory width height ptr) node = node.0
+
+behind_rise : (low high : ℕ) (nodes : List (ℕ × Inode)) → NodesRise low high nodes → Rising low (map (λ (node : ℕ × Inode). node.0) nodes)
+behind_rise low high [] all = tt
+behind_rise low high (node ∷ nodes) all = (all.0, behind_rise (node.0 + 1) high nodes all.3)
+
+pub all_rise : (low high : ℕ) (nodes : List (ℕ × Inode)) → NodesRise low high nodes → Rising 1 (map (λ (node : ℕ × Inode). node.0) nodes)
 all_rise low high [] all = tt
-all_rise low high (node ∷ nodes) all = (all.0, all_rise (node.0 + 1) high nodes all.3)
+all_rise low high (node ∷ nodes) all = (one_at_least node.0 node.1 all.2, behind_rise (node.0 + 1) high nodes all.3)
 
 -- from nothing on
 pub grown : (low high : ℕ) (old new : List (ℕ × Inode)) → old ≡ [] → NodesGrow low high old new → NodesRise low high new
 grown low high old new none grows = subst (NodesRise low high) (sym (grows.is ∙ ap (λ (xs : List (ℕ × Inode)). xs ++ grows.more) none)) grows.rise
 
-narrow_wide : (x : Inode) (width height ptr : ℕ) → IsNarrow x → x ≡ Directory width height ptr → width ≤ 65534
-narrow_wide x width height ptr narrow is = subst IsNarrow is narrow
+node_within : (n : ℕ) (x : Inode) → IsNode (n, x) → IsWithin x
+node_within n Unused node = node
+node_within n (File size height ptr) node = node.1
+node_within n (Directory width height ptr) node = node.1
 
-pub have_widths : (low high : ℕ) (nodes : List (ℕ × Inode)) → NodesRise low high nodes → HaveWidths nodes
-have_widths low high [] all n width height ptr (k, lt, is) = absurd (omega (arith, lt))
-have_widths low high (node ∷ nodes) all n width height ptr (zero, lt, is) = narrow_wide node.1 width height ptr all.2 (ap (λ (p : ℕ × Inode). p.1) is)
-have_widths low high (node ∷ nodes) all n width height ptr (suc k, lt, is) = have_widths (node.0 + 1) high nodes all.3 n width height ptr (k, omega (arith, lt), is)
+pub are_within : (low high : ℕ) (nodes : List (ℕ × Inode)) → high ≤ 65536 → NodesRise low high nodes → AreWithin nodes
+are_within low high [] few all n inode (k, lt, is) = absurd (omega (arith, lt))
+are_within low high (node ∷ nodes) few all n inode (zero, lt, is) =
+    let below : node.0 < high = all.1 in
+    let number : node.0 ≡ n = ap (λ (p : ℕ × Inode). p.0) is in
+    (omega (arith, below, number, few), subst IsWithin (ap (λ (p : ℕ × Inode). p.1) is) (node_within node.0 node.1 all.2))
+are_within low high (node ∷ nodes) few all n inode (suc k, lt, is) = are_within (node.0 + 1) high nodes few all.3 n inode (k, omega (arith, lt), is)
+
+pub have_widths : (nodes : List (ℕ × Inode)) → AreWithin nodes → HaveWidths nodes
+have_widths nodes within n width height ptr has = (within n (Directory width height ptr) has).1
+
+-- ---- the root directory
+
+no_other_root : (low : ℕ) (nodes : List (ℕ × Inode)) → 1 < low → Rising low (map (λ (node : ℕ × Inode). node.0) nodes) → list_any (λ node. node.0 == 1 && is_directory node.1) nodes ≡ false
+no_other_root low [] lt rise = refl
+no_other_root low (node ∷ nodes) lt rise =
+    let le : low ≤ node.0 = rise.0 in
+    let apart : (node.0 == 1) ≡ false = grind (arith, nat_tests) in
+    ap (λ (t : Bool). (t && is_directory node.1) || list_any (λ (x : ℕ × Inode). x.0 == 1 && is_directory x.1) nodes) apart ∙ no_other_root (node.0 + 1) nodes (omega (arith, lt, le)) rise.1
+
+left_of : (t u : Bool) → u ≡ false → (t || u) ≡ true → t ≡ true
+left_of true u e some = refl
+left_of false u e some = sym e ∙ some
+
+never : (t : Bool) → t ≡ false → t ≡ true → ⊥
+never t a b = cc
+
+has_root : (nodes : List (ℕ × Inode)) → Rising 1 (map (λ (node : ℕ × Inode). node.0) nodes) → list_any (λ node. node.0 == 1 && is_directory node.1) nodes ≡ true → is_directory (inode_of nodes 1) ≡ true
+has_root [] rise some = cc
+has_root (node ∷ nodes) rise some = by (node.0 == 1) refl some
+  where
+    behind : list_any (λ (x : ℕ × Inode). x.0 == 1 && is_directory x.1) nodes ≡ false
+    behind = no_other_root (node.0 + 1) nodes (let le : 1 ≤ node.0 = rise.0 in omega (arith, le)) rise.1
+
+    by : (t : Bool) → (node.0 == 1) ≡ t → ((t && is_directory node.1) || list_any (λ (x : ℕ × Inode). x.0 == 1 && is_directory x.1) nodes) ≡ true → is_directory (cond t node.1 (inode_of nodes 1)) ≡ true
+    by true is any = left_of (is_directory node.1) (list_any (λ (x : ℕ × Inode). x.0 == 1 && is_directory x.1) nodes) behind any
+    by false is any = absurd (never _ behind any)
+
+pub root_there : (g : Layout) (nodes : List (ℕ × Inode)) → Rising 1 (map (λ (node : ℕ × Inode). node.0) nodes) → ((marks : List Mark) → Goes g marks marks (root_met nodes)) → is_directory (inode_of nodes 1) ≡ true
+root_there g nodes rise goes = has_root nodes rise (by (list_any (λ (node : ℕ × Inode). node.0 == 1 && is_directory node.1) nodes) ((goes (replicate 0 no_mark)).fine [] (says_nothing 0)))
+  where
+    by : (t : Bool) → walk_finding g [] (cond t [] (not_inode 1 ∷ [])) ≡ None → t ≡ true
+    by true none = refl
+    by false none = cc
+
+pub on_ok : {T E : Type 0} (r : Result T E) (X : Type 0) → X → OnOk r X
+on_ok (Ok value) X x = x
+on_ok (Err fault) X x = tt

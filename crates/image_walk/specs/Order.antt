@@ -6,16 +6,16 @@ use Rattle.block_format.specs.declared.inode.Inode.TheVariants.{Unused, File, Di
 use Rattle.image_walk.specs.declared.node_block.NodeBlock.{NodeBlock}
 use Rattle.image_walk.specs.declared.reached.Reached.{Reached}
 
--- a directory's width is within the limit
-abbrev pub IsNarrow : Inode → Type 0
-IsNarrow Unused = Unit {0}
-IsNarrow (File size height ptr) = Unit {0}
-IsNarrow (Directory width height ptr) = width ≤ 65534
+-- A node that is used: its number is no 0, and its size or its width is within the limit.
+abbrev pub IsNode : ℕ × Inode → Type 0
+IsNode (n, Unused) = ⊥
+IsNode (n, File size height ptr) = (1 ≤ n) × (size ≤ 4294967296)
+IsNode (n, Directory width height ptr) = (1 ≤ n) × (width ≤ 65534)
 
--- The numbers of nodes rise from one on and are below another, and no directory is too wide.
+-- The numbers of nodes rise from one on and are below another, and each is used and within its limit.
 abbrev pub NodesRise : ℕ → ℕ → List (ℕ × Inode) → Type 0
 NodesRise low high [] = Unit {0}
-NodesRise low high (node ∷ nodes) = (low ≤ node.0) × (node.0 < high) × IsNarrow node.1 × NodesRise (node.0 + 1) high nodes
+NodesRise low high (node ∷ nodes) = (low ≤ node.0) × (node.0 < high) × IsNode node × NodesRise (node.0 + 1) high nodes
 
 -- such nodes were put behind the others
 pub record NodesGrow (low high : ℕ) (old new : List (ℕ × Inode)) : Type 0 where

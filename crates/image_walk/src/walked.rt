@@ -1,14 +1,15 @@
 //! The walk as a whole.
-ghost use Rattle.std.specs.Prelude.{◌≡◌, ◌*◌, ◌++◌, [], map, IfOk, IsOk, OnOk, IsTrue, length, replicate};
+ghost use Rattle.std.specs.Prelude.{◌≡◌, ◌*◌, ◌++◌, [], map, IfOk, IsOk, OnOk, IsTrue, length, replicate, true};
 ghost use Rattle.vol_numbers.specs.Geometry.{layout_of};
 ghost use Rattle.vol_numbers.specs.Layout.{count_blocks};
 ghost use Rattle.disk_model.specs.Past.{Adds};
 ghost use Rattle.block_tree.specs.Tree.{blocks_in};
-ghost use Rattle.image_model.specs.Walk.{nodes_at, walk};
+ghost use Rattle.image_model.specs.Slots.{inode_of};
+ghost use Rattle.image_model.specs.Walk.{is_directory, nodes_at, walk};
 ghost use Rattle.image_walk.specs.Cause.{HasWalkCause};
 ghost use Rattle.image_walk.specs.Kept.{all_lasts};
 ghost use Rattle.image_walk.specs.Blocks.{AreOnDisk, NeverFall, blocks_held};
-ghost use Rattle.image_walk.specs.Left.{HasOwners, HaveWidths, OfSeen, SeesEnds};
+ghost use Rattle.image_walk.specs.Left.{AreWithin, HasOwners, HaveWidths, OfSeen, SeesEnds};
 ghost use Rattle.image_walk.specs.Order.{InOrder, NodesRise};
 ghost use Rattle.place_words.specs.Rising.{Rising};
 ghost use Rattle.image_walk.specs.Marks.{Says, no_mark};
@@ -68,9 +69,11 @@ pub fn walk<D: Disk>(
     ensures owners { IsOk result → IsTrue D.tells → OfSeen (blocks_in (D.state disk.old).contents) at HasOwners }
     ensures ends { IfOk result (λ w. IsTrue D.tells → OfSeen (blocks_in (D.state disk.old).contents) at (SeesEnds (blocks_in (D.state disk.old).contents) w.lasts)) }
 
-    // On every disk nodes and blocks come by number, widths are within the limit, and blocks are on the disk.
-    ensures numbers { IfOk result (λ w. Rising 0 (map (λ node. node.0) w.nodes)) }
+    // On every disk nodes and blocks come by number, sizes and widths are within their limits, number 1 is a directory, and blocks are on the disk.
+    ensures numbers { IfOk result (λ w. Rising 1 (map (λ node. node.0) w.nodes)) }
+    ensures within { IfOk result (λ w. AreWithin w.nodes) }
     ensures widths { IfOk result (λ w. HaveWidths w.nodes) }
+    ensures root { IfOk result (λ w. is_directory (inode_of w.nodes 1) ≡ true) }
     ensures order { IfOk result (λ w. NeverFall w.pages × NeverFall w.lasts) }
     ensures on_disk { IfOk result (λ w. AreOnDisk (D.fixed disk.old).size w.pages × AreOnDisk (D.fixed disk.old).size w.lasts) }
 
@@ -130,6 +133,7 @@ fn walk_parts<D: Disk>(
     ensures walked { IsTrue D.tells → PassesOver (layout_of g.now) walking.old.reached walking.new.reached (walk (blocks_in (D.state disk.old).contents) at) (all_lasts (blocks_in (D.state disk.old).contents) (nodes_at (blocks_in (D.state disk.old).contents) at)) result }
     ensures nodes { OnOk result (IsTrue D.tells → walking.new.nodes.items ≡ nodes_at (blocks_in (D.state disk.old).contents) at) }
     ensures rise { OnOk result (NodesRise 0 65536 walking.new.nodes.items) }
+    ensures root { OnOk result (is_directory (inode_of walking.new.nodes.items 1) ≡ true) }
     ensures order { OnOk result (InOrder (layout_of g.now).blocks [] walking.new.reached) }
     ensures long { OnOk result (length walking.new.reached.marks ≡ length walking.old.reached.marks) }
     ensures same { IsTrue D.tells → D.state disk.new ≡ D.state disk.old }

@@ -5,6 +5,10 @@ mod accepting;
 mod checking;
 mod fault;
 mod reading;
+mod shown;
+mod table;
 
 pub use checking::check_log;
 pub use fault::LogCheckFault;
+pub use shown::early_images_are_shown;
+pub use table::table_of;

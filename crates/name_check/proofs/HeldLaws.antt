@@ -18,7 +18,7 @@ use Rattle.image_model.specs.Walk.{is_directory}
 use Rattle.image_model.specs.declared.finding.Finding.{Finding}
 use Rattle.image_model.specs.declared.finding.Finding.TheVariants.{BadDirectory}
 use Rattle.image_walk.specs.Blocks.{blocks_held}
-use Rattle.name_check.specs.Directories.{IsRead, FindsBad, AreHeld, is_bad, pages_seen}
+use Rattle.name_check.specs.Directories.{IsRead, FindsBad, AreHeld, AreWide, is_bad, pages_seen}
 use Rattle.image_walk.specs.Left.{HasOwners}
 use Rattle.name_check.specs.Seeing.{HoldsDirectories, FindsInNodes, directory_numbers}
 use Rattle.image_walk.specs.declared.node_block.NodeBlock.{NodeBlock}
@@ -93,6 +93,70 @@ numbers_under from (suc k) ((n, Directory width height ptr) ∷ nodes) rise lt =
 pub held_below : (nodes : Nodes) (k : ℕ) (held : List Held) → Rising 0 (map (λ node. node.0) nodes) → k < length nodes → map (λ h. h.number) held ≡ directory_numbers (take k nodes) → AllBelow (get_or nodes k none).0 held
 held_below nodes k held rise lt same = all_below (get_or nodes k none).0 held (subst (λ (ns : List ℕ). AllUnder (get_or nodes k none).0 ns) (sym same) (numbers_under 0 k nodes rise lt).1)
 
+-- ---- how wide they are
+
+behind_apart : (from n : ℕ) (nodes : Nodes) (x : Inode) → Rising from (map (λ node. node.0) nodes) → Contains nodes (n, x) → from ≤ n
+behind_apart from n [] x rise (k, lt, is) = absurd (omega (arith, lt))
+behind_apart from n (node ∷ nodes) x rise (zero, lt, is) = let e : node.0 ≡ n = ap (λ (p : ℕ × Inode). p.0) is in let a = rise.0 in omega (arith, e, a)
+behind_apart from n (node ∷ nodes) x rise (suc k, lt, is) = let more = behind_apart (node.0 + 1) n nodes x rise.1 (k, omega (arith, lt), is) in let a = rise.0 in omega (arith, more, a)
+
+width_of : Inode → ℕ
+width_of Unused = 0
+width_of (File size height ptr) = 0
+width_of (Directory width height ptr) = width
+
+pub found_wide : (from : ℕ) (nodes : Nodes) (held : List Held) (n width height ptr : ℕ) (slots : List Slot) → Rising from (map (λ node. node.0) nodes) → AreWide nodes held
+    → Contains nodes (n, Directory width height ptr) → slots_at held n ≡ Some slots → length slots ≡ width
+unfolding width_of
+found_wide from [] held n width height ptr slots rise are (k, lt, is) e = absurd (omega (arith, lt))
+found_wide from ((m, Unused) ∷ xs) held n width height ptr slots rise are (zero, lt, is) e = let t : false ≡ true = ap (λ (p : ℕ × Inode). is_directory p.1) is in cc
+found_wide from ((m, Unused) ∷ xs) held n width height ptr slots rise are (suc k, lt, is) e = found_wide (m + 1) xs held n width height ptr slots rise.1 are (k, omega (arith, lt), is) e
+found_wide from ((m, File s he p) ∷ xs) held n width height ptr slots rise are (zero, lt, is) e = let t : false ≡ true = ap (λ (p : ℕ × Inode). is_directory p.1) is in cc
+found_wide from ((m, File s he p) ∷ xs) held n width height ptr slots rise are (suc k, lt, is) e = found_wide (m + 1) xs held n width height ptr slots rise.1 are (k, omega (arith, lt), is) e
+found_wide from ((m, Directory w he p) ∷ xs) [] n width height ptr slots rise are has e = absurd are
+found_wide from ((m, Directory w he p) ∷ xs) (h ∷ hs) n width height ptr slots rise are (zero, lt, is) e =
+    let number : m ≡ n = ap (λ (p : ℕ × Inode). p.0) is in
+    let wide : w ≡ width = ap (λ (p : ℕ × Inode). width_of p.1) is in
+    let same : nat_eq h.number n ≡ true = eq-eqb h.number n (are.0 ∙ number) in
+    let there : Some h.slots ≡ Some slots = sym (ap (λ (t : Bool). cond t (Some h.slots) (slots_at hs n)) same) ∙ e in
+    let slots_are : h.slots ≡ slots = grind arith in
+    ap length (sym slots_are) ∙ are.1 ∙ wide
+found_wide from ((m, Directory w he p) ∷ xs) (h ∷ hs) n width height ptr slots rise are (suc k, lt, is) e =
+    let behind = behind_apart (m + 1) n xs (Directory width height ptr) rise.1 (k, omega (arith, lt), is) in
+    let number = are.0 in
+    let apart : nat_eq h.number n ≡ false = grind (arith, nat_tests) in
+    found_wide (m + 1) xs hs n width height ptr slots rise.1 are.2 (k, omega (arith, lt), is) (sym (ap (λ (t : Bool). cond t (Some h.slots) (slots_at hs n)) apart) ∙ e)
+
+wide_append : (xs : Nodes) (n width height ptr : ℕ) (held : List Held) (slots : List Slot) → AreWide xs held → length slots ≡ width
+    → AreWide (xs ++ (n, Directory width height ptr) ∷ []) (held ++ record { number = n; slots = slots } ∷ [])
+wide_append [] n width height ptr [] slots are wide = (refl, wide, refl)
+wide_append [] n width height ptr (h ∷ hs) slots are wide = absurd (let e : h ∷ hs ≡ [] = are in cc)
+wide_append ((m, Unused) ∷ xs) n width height ptr held slots are wide = wide_append xs n width height ptr held slots are wide
+wide_append ((m, File s he p) ∷ xs) n width height ptr held slots are wide = wide_append xs n width height ptr held slots are wide
+wide_append ((m, Directory w he p) ∷ xs) n width height ptr [] slots are wide = absurd are
+wide_append ((m, Directory w he p) ∷ xs) n width height ptr (h ∷ hs) slots are wide = (are.0, are.1, wide_append xs n width height ptr hs slots are.2 wide)
+
+wide_none : (xs : Nodes) (n : ℕ) (x : Inode) (held : List Held) → is_directory x ≡ false → AreWide xs held → AreWide (xs ++ (n, x) ∷ []) held
+wide_none [] n Unused held is are = are
+wide_none [] n (File size height ptr) held is are = are
+wide_none [] n (Directory width height ptr) held is are = cc
+wide_none ((m, Unused) ∷ xs) n x held is are = wide_none xs n x held is are
+wide_none ((m, File s he p) ∷ xs) n x held is are = wide_none xs n x held is are
+wide_none ((m, Directory w he p) ∷ xs) n x [] is are = absurd are
+wide_none ((m, Directory w he p) ∷ xs) n x (h ∷ hs) is are = (are.0, are.1, wide_none xs n x hs is are.2)
+
+pub wide_more : (nodes : Nodes) (k : ℕ) (held : List Held) (slots : List Slot) (width height ptr : ℕ) → k < length nodes → (get_or nodes k none).1 ≡ Directory width height ptr
+    → AreWide (take k nodes) held → length slots ≡ width → AreWide (take (k + 1) nodes) (held ++ record { number = (get_or nodes k none).0; slots = slots } ∷ [])
+wide_more nodes k held slots width height ptr lt is are wide =
+    let n = (get_or nodes k none).0 in
+    let more = held ++ record { number = n; slots = slots } ∷ [] in
+    subst (λ (xs : Nodes). AreWide xs more) (sym (take_more nodes k none lt))
+    (subst (λ (x : Inode). AreWide (take k nodes ++ (n, x) ∷ []) more) (sym is) (wide_append (take k nodes) n width height ptr held slots are wide))
+
+pub wide_other : (nodes : Nodes) (k : ℕ) (held : List Held) → k < length nodes → is_directory (get_or nodes k none).1 ≡ false → AreWide (take k nodes) held → AreWide (take (k + 1) nodes) held
+wide_other nodes k held lt is are =
+    subst (λ (xs : Nodes). AreWide xs held) (sym (take_more nodes k none lt)) (wide_none (take k nodes) (get_or nodes k none).0 (get_or nodes k none).1 held is are)
+
 -- ---- what is held
 
 module _ (read : Blocks) (pages : List NodeBlock) where
@@ -162,37 +226,12 @@ module _ (read : Blocks) (pages : List NodeBlock) where
       by true same e more = cc
       by false same e more = ap (λ (t : Bool). is_directory (cond t (Directory w he p) (inode_of xs n))) same ∙ more e
 
-  behind_apart : (from n : ℕ) (nodes : Nodes) (x : Inode) → Rising from (map (λ node. node.0) nodes) → Contains nodes (n, x) → from ≤ n
-  behind_apart from n [] x rise (k, lt, is) = absurd (omega (arith, lt))
-  behind_apart from n (node ∷ nodes) x rise (zero, lt, is) = let e : node.0 ≡ n = ap (λ (p : ℕ × Inode). p.0) is in let a = rise.0 in omega (arith, e, a)
-  behind_apart from n (node ∷ nodes) x rise (suc k, lt, is) = let more = behind_apart (node.0 + 1) n nodes x rise.1 (k, omega (arith, lt), is) in let a = rise.0 in omega (arith, more, a)
-
-  width_of : Inode → ℕ
-  width_of Unused = 0
-  width_of (File size height ptr) = 0
-  width_of (Directory width height ptr) = width
-
-  found_wide : (from : ℕ) (nodes : Nodes) (held : List Held) (n width height ptr : ℕ) (slots : List Slot) → Rising from (map (λ node. node.0) nodes) → AreHeld read pages nodes held
-      → Contains nodes (n, Directory width height ptr) → slots_at held n ≡ Some slots → length slots ≡ width
-  unfolding width_of
-  found_wide from [] held n width height ptr slots rise are (k, lt, is) e = absurd (omega (arith, lt))
-  found_wide from ((m, Unused) ∷ xs) held n width height ptr slots rise are (zero, lt, is) e = let t : false ≡ true = ap (λ (p : ℕ × Inode). is_directory p.1) is in cc
-  found_wide from ((m, Unused) ∷ xs) held n width height ptr slots rise are (suc k, lt, is) e = found_wide (m + 1) xs held n width height ptr slots rise.1 are (k, omega (arith, lt), is) e
-  found_wide from ((m, File s he p) ∷ xs) held n width height ptr slots rise are (zero, lt, is) e = let t : false ≡ true = ap (λ (p : ℕ × Inode). is_directory p.1) is in cc
-  found_wide from ((m, File s he p) ∷ xs) held n width height ptr slots rise are (suc k, lt, is) e = found_wide (m + 1) xs held n width height ptr slots rise.1 are (k, omega (arith, lt), is) e
-  found_wide from ((m, Directory w he p) ∷ xs) [] n width height ptr slots rise are has e = absurd are
-  found_wide from ((m, Directory w he p) ∷ xs) (h ∷ hs) n width height ptr slots rise are (zero, lt, is) e =
-      let number : m ≡ n = ap (λ (p : ℕ × Inode). p.0) is in
-      let wide : w ≡ width = ap (λ (p : ℕ × Inode). width_of p.1) is in
-      let same : nat_eq h.number n ≡ true = eq-eqb h.number n (are.0 ∙ number) in
-      let there : Some h.slots ≡ Some slots = sym (ap (λ (t : Bool). cond t (Some h.slots) (slots_at hs n)) same) ∙ e in
-      let slots_are : h.slots ≡ slots = grind arith in
-      ap length (sym slots_are) ∙ are.1.wide ∙ wide
-  found_wide from ((m, Directory w he p) ∷ xs) (h ∷ hs) n width height ptr slots rise are (suc k, lt, is) e =
-      let behind = behind_apart (m + 1) n xs (Directory width height ptr) rise.1 (k, omega (arith, lt), is) in
-      let number = are.0 in
-      let apart : nat_eq h.number n ≡ false = grind (arith, nat_tests) in
-      found_wide (m + 1) xs hs n width height ptr slots rise.1 are.2 (k, omega (arith, lt), is) (sym (ap (λ (t : Bool). cond t (Some h.slots) (slots_at hs n)) apart) ∙ e)
+  wide_of : (nodes : Nodes) (held : List Held) → AreHeld read pages nodes held → AreWide nodes held
+  wide_of [] held are = are
+  wide_of ((m, Unused) ∷ xs) held are = wide_of xs held are
+  wide_of ((m, File s he p) ∷ xs) held are = wide_of xs held are
+  wide_of ((m, Directory w he p) ∷ xs) [] are = are
+  wide_of ((m, Directory w he p) ∷ xs) (h ∷ hs) are = (are.0, are.1.wide, wide_of xs hs are.2)
 
   are_seen : (s : Seen) → s.pages ≡ blocks_held read pages → (n : ℕ) → slots_of s n ≡ slots_of (pages_seen read pages) n
   are_seen s same n = ap (λ (hs : List Blocks_held). slots_of (record { met = []; nodes = []; pages = hs; contents = []; kept = [] }) n) same
@@ -201,7 +240,7 @@ module _ (read : Blocks) (pages : List NodeBlock) where
   all_held nodes held s rise numbers are same same_pages owners = record {
     numbers = numbers ∙ ap directory_numbers (sym same);
     slots = λ n slots is. let good = found_read nodes held n slots are is in (good.1.seen.0, are_seen s same_pages n ∙ good.1.seen.1);
-    widths = λ n width height ptr slots has is. found_wide 0 nodes held n width height ptr slots rise are (subst (λ (xs : Nodes). Contains xs (n, Directory width height ptr)) same has) is;
+    widths = λ n width height ptr slots has is. found_wide 0 nodes held n width height ptr slots rise (wide_of nodes held are) (subst (λ (xs : Nodes). Contains xs (n, Directory width height ptr)) same has) is;
     others = λ n is. owners n (ap (λ (xs : Nodes). is_directory (inode_of xs n)) same ∙ found_not nodes held n are is);
   }
 

@@ -58,3 +58,11 @@ AreHeld read pages ((n, Unused) ∷ nodes) held = AreHeld read pages nodes held
 AreHeld read pages ((n, File size height ptr) ∷ nodes) held = AreHeld read pages nodes held
 AreHeld read pages ((n, Directory width height ptr) ∷ nodes) [] = ⊥
 AreHeld read pages ((n, Directory width height ptr) ∷ nodes) (h ∷ hs) = (h.number ≡ n) × IsRead read pages n width h.slots × AreHeld read pages nodes hs
+
+-- of these nodes the directories are held, in order, each as wide as its inode says
+abbrev pub AreWide : List (ℕ × Inode) → List Held → Type 0
+AreWide [] held = held ≡ []
+AreWide ((n, Unused) ∷ nodes) held = AreWide nodes held
+AreWide ((n, File size height ptr) ∷ nodes) held = AreWide nodes held
+AreWide ((n, Directory width height ptr) ∷ nodes) [] = ⊥
+AreWide ((n, Directory width height ptr) ∷ nodes) (h ∷ hs) = (h.number ≡ n) × (length h.slots ≡ width) × AreWide nodes hs

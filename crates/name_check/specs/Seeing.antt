@@ -19,11 +19,15 @@ directory_numbers ((n, Unused) ∷ nodes) = directory_numbers nodes
 directory_numbers ((n, File size height ptr) ∷ nodes) = directory_numbers nodes
 directory_numbers ((n, Directory width height ptr) ∷ nodes) = n ∷ directory_numbers nodes
 
+-- each directory has as many slots as its inode says
+abbrev pub HaveSlots : List (ℕ × Inode) → List Directories → Type 0
+HaveSlots nodes held = (n width height ptr : ℕ) (slots : List Slot) → Contains nodes (n, Directory width height ptr) → slots_at held n ≡ Some slots → length slots ≡ width
+
 -- The directories that are held are those that are seen: each as wide as its inode says, with unused slots alone behind it.
 pub record HoldsDirectories (s : Seen) (held : List Directories) : Type 0 where
   pub numbers : map (λ h. h.number) held ≡ directory_numbers s.nodes
   pub slots : (n : ℕ) (slots : List Slot) → slots_at held n ≡ Some slots → (k : ℕ) × (slots_of s n ≡ slots ++ replicate k slot.Unused)
-  pub widths : (n width height ptr : ℕ) (slots : List Slot) → Contains s.nodes (n, Directory width height ptr) → slots_at held n ≡ Some slots → length slots ≡ width
+  pub widths : HaveSlots s.nodes held
   pub others : (n : ℕ) → slots_at held n ≡ None → slots_of s n ≡ []
 
 -- what is found is what is wrong with the directories first

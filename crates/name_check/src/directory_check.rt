@@ -9,9 +9,9 @@ ghost use Rattle.image_model.specs.Nodes.{directory_finding};
 ghost use Rattle.image_model.specs.Seen.{Seen};
 ghost use Rattle.image_walk.specs.Blocks.{NeverFall, AreOnDisk, blocks_held};
 ghost use Rattle.name_check.specs.Cause.{HasNameCause, IsOwn};
-ghost use Rattle.name_check.specs.Directories.{IsRead, FindsBad, FindsNone, AreHeld, is_bad};
+ghost use Rattle.name_check.specs.Directories.{IsRead, FindsBad, FindsNone, AreHeld, AreWide, is_bad};
 ghost use Rattle.image_walk.specs.Left.{HasOwners, HaveWidths};
-ghost use Rattle.name_check.specs.Seeing.{HoldsDirectories, FindsInNodes};
+ghost use Rattle.name_check.specs.Seeing.{HoldsDirectories, HaveSlots, FindsInNodes, directory_numbers};
 
 use crate::NameFault;
 use crate::blocks::of_number;
@@ -42,6 +42,8 @@ pub fn directories<D: Disk>(
     requires size { AreOnDisk (D.fixed disk.old).size pages.now }
     ensures none { IfOk result (λ _. IsTrue D.tells → (s : Seen) → s.nodes ≡ nodes.now → s.pages ≡ blocks_held (blocks_in (D.state disk.old).contents) pages.now → directory_finding s ≡ None) }
     ensures held { IfOk result (λ held. IsTrue D.tells → (s : Seen) → s.nodes ≡ nodes.now → s.pages ≡ blocks_held (blocks_in (D.state disk.old).contents) pages.now → HasOwners s → HoldsDirectories s held) }
+    ensures numbers { IfOk result (λ held. map (λ h. h.number) held ≡ directory_numbers nodes.now) }
+    ensures widths { IfOk result (λ held. HaveSlots nodes.now held) }
     ensures found { IfErr result (λ fault. IsTrue D.tells → (s : Seen) → s.nodes ≡ nodes.now → s.pages ≡ blocks_held (blocks_in (D.state disk.old).contents) pages.now → FindsInNodes s fault) }
     ensures same { IsTrue D.tells → D.state disk.new ≡ D.state disk.old }
     ensures moments { IsTrue D.tells → Adds (D.past disk.old) (D.past disk.new) (λ s. s ≡ D.state disk.old) }
@@ -70,6 +72,7 @@ fn read_directory<D: Disk>(
     requires order { NeverFall pages.now }
     requires size { AreOnDisk (D.fixed disk.old).size pages.now }
     ensures read { IfOk result (λ slots. IsTrue D.tells → IsRead (blocks_in (D.state disk.old).contents) pages.now number width slots) }
+    ensures wide { IfOk result (λ slots. length slots ≡ width) }
     ensures bad { IfErr result (λ fault. IsTrue D.tells → FindsBad (blocks_in (D.state disk.old).contents) pages.now number width fault) }
     ensures same { IsTrue D.tells → D.state disk.new ≡ D.state disk.old }
     ensures moments { IsTrue D.tells → Adds (D.past disk.old) (D.past disk.new) (λ s. s ≡ D.state disk.old) }

@@ -1,4 +1,4 @@
-use Rattle.std.proofs.Common.{◌∙◌, ◌++◌, ◌*◌, [], List, ℕ, map, ap, sym, subst}
+use Rattle.std.proofs.Common.{◌∙◌, ◌++◌, ◌*◌, [], List, ℕ, map, arith, ap, sym, subst}
 use Rattle.vol_numbers.specs.Geometry.{layout_of}
 use Rattle.vol_numbers.specs.Layout.{count_blocks}
 use Rattle.block_tree.specs.Tree.{blocks_in}
@@ -7,10 +7,10 @@ use Rattle.block_format.specs.declared.inode.Inode.{Inode}
 use Rattle.place_words.specs.Rising.{Rising}
 use Rattle.image_walk.specs.Blocks.{AreOnDisk, NeverFall, blocks_held}
 use Rattle.image_walk.specs.Kept.{all_lasts, pages_of}
-use Rattle.image_walk.specs.Left.{HaveWidths, OfSeen, SeesEnds}
+use Rattle.image_walk.specs.Left.{AreWithin, HaveWidths, OfSeen, SeesEnds}
 use Rattle.image_walk.specs.declared.node_block.NodeBlock.{NodeBlock}
 use Rattle.image_walk.proofs.LeftLaws.{pages_seen, owners_seen, ends_seen}
-use Rattle.image_walk.proofs.OrderLaws.{all_rise, have_widths, never_fall, on_disk}
+use Rattle.image_walk.proofs.OrderLaws.{are_within, all_rise, have_widths, never_fall, on_disk}
 use Rattle.image_walk.specs.declared.marks.Mark.{Mark}
 use Rattle.image_walk.specs.Marks.{Says, SaysUpTo}
 use Rattle.image_walk.proofs.MarkLaws.{says_nothing}
@@ -58,10 +58,10 @@ returns-clause-ends g c tells =
     (ends_seen read c.args.at)
 
 pub returns-clause-numbers : goal.returns-clause-numbers
-returns-clause-numbers g c = subst (λ (xs : List (ℕ × Inode)). Rising 0 (map (λ (node : ℕ × Inode). node.0) xs)) (sym c.end.ensures.nodes) (all_rise 0 65536 _ c.in_ok-walk_parts.ensures.rise)
+returns-clause-numbers g c = subst (λ (xs : List (ℕ × Inode)). Rising 1 (map (λ (node : ℕ × Inode). node.0) xs)) (sym c.end.ensures.nodes) (all_rise 0 65536 _ c.in_ok-walk_parts.ensures.rise)
 
 pub returns-clause-widths : goal.returns-clause-widths
-returns-clause-widths g c = subst HaveWidths (sym c.end.ensures.nodes) (have_widths 0 65536 _ c.in_ok-walk_parts.ensures.rise)
+returns-clause-widths g c = subst HaveWidths (sym c.end.ensures.nodes) (have_widths _ (are_within 0 65536 _ (omega arith) c.in_ok-walk_parts.ensures.rise))
 
 pub returns-clause-order : goal.returns-clause-order
 returns-clause-order g c =
@@ -73,3 +73,6 @@ returns-clause-on_disk g c =
     let order = c.in_ok-walk_parts.ensures.order in
     subst (λ (size : ℕ). AreOnDisk size c.end.result.pages × AreOnDisk size c.end.result.lasts) c.requires
     (subst (AreOnDisk (layout_of c.args.g.now).blocks) (sym c.end.ensures.pages) (on_disk _ 0 order.next _ order.pages), subst (AreOnDisk (layout_of c.args.g.now).blocks) (sym c.end.ensures.lasts) (on_disk _ 0 order.next _ order.lasts))
+
+pub returns-clause-within : goal.returns-clause-within
+returns-clause-within g c = subst AreWithin (sym c.end.ensures.nodes) (are_within 0 65536 _ (omega arith) c.in_ok-walk_parts.ensures.rise)

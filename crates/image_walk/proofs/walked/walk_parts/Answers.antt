@@ -1,4 +1,4 @@
-use Rattle.std.proofs.Common.{◌≡◌, ◌∙◌, ◌++◌, ◌∷◌, List, ℕ, map, refl, sym, ap, subst}
+use Rattle.std.proofs.Common.{◌≡◌, ◌∙◌, ◌++◌, ◌∷◌, List, ℕ, map, arith, refl, sym, ap, subst}
 use Rattle.std.specs.List.{flat_map}
 use Rattle.vol_numbers.specs.Geometry.{layout_of}
 use Rattle.disk_model.specs.Disk.{State}
@@ -10,8 +10,10 @@ use Rattle.image_walk.specs.Going.{Goes, EndsBy}
 use Rattle.image_walk.specs.Kept.{all_lasts}
 use Rattle.image_walk.specs.Trees.{PassesOver}
 use Rattle.image_walk.proofs.TreeLaws.{passes_err}
-use Rattle.image_walk.proofs.OrderLaws.{grown, order_start, all_rise}
+use Rattle.image_walk.proofs.OrderLaws.{on_ok, root_there, grown, order_start, all_rise}
 use Rattle.place_words.specs.Rising.{Rising}
+use Rattle.place_words.proofs.Rising.{rising_less}
+use Rattle.image_walk.specs.declared.marks.Mark.{Mark}
 use Rattle.image_walk.proofs.WholeLaws.{index_ends, inodes_end, root_ends, parts_over}
 use Rattle.image_walk.proofs.walked.walk_parts.Goals as goal
 
@@ -79,4 +81,11 @@ pub walk_trees-requires-clause-order : goal.walk_trees-requires-clause-order
 walk_trees-requires-clause-order g c =
     let rise = grown 0 65536 c.args.walking.now.nodes.items c.walk_inodes.new.nodes.items c.requires.nodes c.in_ok-walk_inodes.ensures.grows in
     let same : c.deref-2.result.now ≡ c.walk_inodes.new.nodes.items = c.deref-2.ensures.value in
-    order_start _ _ _ (subst (λ (xs : List (ℕ × Inode)). Rising 0 (map (λ (node : ℕ × Inode). node.0) xs)) (sym same) (all_rise 0 65536 _ rise)) c.requires.pages c.requires.lasts
+    order_start _ _ _ (rising_less 0 1 (omega arith) _ (subst (λ (xs : List (ℕ × Inode)). Rising 1 (map (λ (node : ℕ × Inode). node.0) xs)) (sym same) (all_rise 0 65536 _ rise))) c.requires.pages c.requires.lasts
+
+pub returns-clause-root : goal.returns-clause-root
+returns-clause-root g c =
+    let lay = layout_of c.args.g.now in
+    let rise = grown 0 65536 c.args.walking.now.nodes.items c.walk_inodes.new.nodes.items c.requires.nodes c.in_ok-walk_inodes.ensures.grows in
+    on_ok c.walk_trees.result _ (root_there lay c.walk_inodes.new.nodes.items (all_rise 0 65536 _ rise)
+    (subst (λ (xs : List (ℕ × Inode)). (marks : List Mark) → Goes lay marks marks (root_met xs)) c.deref.ensures.value (c.in_ok-walk_root.ensures.walked lay)))

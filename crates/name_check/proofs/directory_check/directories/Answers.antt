@@ -9,10 +9,10 @@ use Rattle.block_format.specs.declared.inode.Inode.TheVariants.{Unused}
 use Rattle.block_tree.specs.Tree.{blocks_in}
 use Rattle.held_list.specs.declared.held.Held.{Held}
 use Rattle.image_model.specs.declared.finding.Finding.TheVariants.{BadDirectory}
-use Rattle.name_check.specs.Directories.{is_bad, IsRead, FindsBad, AreHeld}
+use Rattle.name_check.specs.Directories.{is_bad, IsRead, FindsBad, AreHeld, AreWide}
 use Rattle.name_check.specs.Seeing.{directory_numbers}
 use Rattle.name_check.proofs.FirstLaws.{fine_there}
-use Rattle.name_check.proofs.HeldLaws.{node_there, held_below, numbers_more, numbers_other, held_more, held_other, other_fine, all_held, finds, read_fine, no_directory}
+use Rattle.name_check.proofs.HeldLaws.{node_there, held_below, numbers_more, numbers_other, held_more, held_other, other_fine, all_held, found_wide, wide_more, wide_other, finds, read_fine, no_directory}
 use Rattle.name_check.proofs.directory_check.directories.Goals as goal
 use Rattle.name_check.proofs.directory_check.directories.Goals.{in-Directory+in_ok-slots+in_ok-push, in_default}
 
@@ -60,6 +60,7 @@ loop-node-preserved g c =
           record {
             none = λ tells. fine_there (is_bad read pages) BadDirectory nodes k (0, Unused) lt (read_fine read pages nodes k _ _ _ _ w.in-Directory.is (good tells)) (inv.none tells);
             numbers = subst (λ (held : List Held). map (λ h. h.number) held ≡ directory_numbers (take (k + 1) nodes)) (sym now) (numbers_more nodes k lt c.loop-node.held w.in_ok-slots.slots _ _ _ w.in-Directory.is inv.numbers);
+            wide = subst (λ (held : List Held). AreWide (take (k + 1) nodes) held) (sym now) (wide_more nodes k c.loop-node.held w.in_ok-slots.slots _ _ _ lt w.in-Directory.is inv.wide w.in_ok-slots.ensures.wide);
             held = λ tells. subst (λ (held : List Held). AreHeld read pages (take (k + 1) nodes) held) (sym now) (held_more read pages nodes k c.loop-node.held w.in_ok-slots.slots _ _ _ lt w.in-Directory.is (inv.held tells) (good tells));
             same = λ tells. ap (λ d. g.D.Disk.state d) w.disk-is ∙ w.in_ok-slots.ensures.same tells ∙ inv.same tells;
             moments = λ tells. subst (λ d. Adds (g.D.Disk.past c.args.disk.now) (g.D.Disk.past d) (λ s. s ≡ g.D.Disk.state c.args.disk.now)) (sym w.disk-is) (adds_read (inv.moments tells) (inv.same tells) (w.in_ok-slots.ensures.moments tells));
@@ -71,6 +72,7 @@ loop-node-preserved g c =
           record {
             none = λ tells. fine_there (is_bad read pages) BadDirectory nodes k (0, Unused) lt (other_fine read pages _ _ other) (inv.none tells);
             numbers = subst (λ (held : List Held). map (λ h. h.number) held ≡ directory_numbers (take (k + 1) nodes)) (sym w.held-is) (numbers_other nodes k lt c.loop-node.held other inv.numbers);
+            wide = subst (λ (held : List Held). AreWide (take (k + 1) nodes) held) (sym w.held-is) (wide_other nodes k c.loop-node.held lt other inv.wide);
             held = λ tells. subst (λ (held : List Held). AreHeld read pages (take (k + 1) nodes) held) (sym w.held-is) (held_other read pages nodes k c.loop-node.held lt other (inv.held tells));
             same = λ tells. ap (λ d. g.D.Disk.state d) w.disk-is ∙ inv.same tells;
             moments = λ tells. subst (λ d. Adds (g.D.Disk.past c.args.disk.now) (g.D.Disk.past d) (λ s. s ≡ g.D.Disk.state c.args.disk.now)) (sym w.disk-is) (inv.moments tells);
@@ -78,3 +80,11 @@ loop-node-preserved g c =
             faults = ap (λ d. g.D.Disk.faults d) w.disk-is ∙ inv.faults;
           })
     ]
+
+pub returns-clause-widths : goal.returns-clause-widths
+returns-clause-widths g c n width height ptr slots has is =
+    let whole : take c.loop-node.node-index c.args.nodes.now ≡ c.args.nodes.now = take_all c.loop-node.node-index c.args.nodes.now c.loop-node-test.false in
+    found_wide 0 c.args.nodes.now c.loop-node.held n width height ptr slots c.requires.nodes (subst (λ xs. AreWide xs c.loop-node.held) whole c.loop-node.invariant.wide) has is
+
+pub returns-clause-numbers : goal.returns-clause-numbers
+returns-clause-numbers g c = c.loop-node.invariant.numbers ∙ ap directory_numbers (take_all c.loop-node.node-index c.args.nodes.now c.loop-node-test.false)

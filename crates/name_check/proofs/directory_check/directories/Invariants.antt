@@ -3,7 +3,7 @@ use Rattle.disk_model.specs.Past.{Adds}
 use Rattle.block_tree.specs.Tree.{blocks_in}
 use Rattle.image_model.specs.Nodes.{first_node}
 use Rattle.image_model.specs.declared.finding.Finding.TheVariants.{BadDirectory}
-use Rattle.name_check.specs.Directories.{AreHeld, is_bad}
+use Rattle.name_check.specs.Directories.{AreHeld, AreWide, is_bad}
 use Rattle.name_check.specs.Seeing.{directory_numbers}
 use Rattle.name_check.proofs.directory_check.directories.Given as goal
 
@@ -12,6 +12,7 @@ invariant-loop-node g l = record {
   none : IsTrue g.D.Disk.tells
       → first_node (is_bad (blocks_in (g.D.Disk.state l.fn.disk).contents) l.pages) BadDirectory (drop l.node-index l.nodes) ≡ first_node (is_bad (blocks_in (g.D.Disk.state l.fn.disk).contents) l.pages) BadDirectory l.nodes;
   numbers : map (λ h. h.number) l.held ≡ directory_numbers (take l.node-index l.nodes);
+  wide : AreWide (take l.node-index l.nodes) l.held;
   held : IsTrue g.D.Disk.tells → AreHeld (blocks_in (g.D.Disk.state l.fn.disk).contents) l.pages (take l.node-index l.nodes) l.held;
   same : IsTrue g.D.Disk.tells → g.D.Disk.state l.disk ≡ g.D.Disk.state l.fn.disk;
   moments : IsTrue g.D.Disk.tells → Adds (g.D.Disk.past l.fn.disk) (g.D.Disk.past l.disk) (λ s. s ≡ g.D.Disk.state l.fn.disk);
