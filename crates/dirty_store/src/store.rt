@@ -1,8 +1,9 @@
 //! The store of what is staged.
-ghost use Rattle.std.specs.Prelude.{◌≡◌, IfOk, OnOk, OnErr};
+ghost use Rattle.std.specs.Prelude.{◌≡◌, length, IfOk, OnOk, OnErr};
 ghost use Rattle.std.specs.Option.{option_copied, option_map};
 ghost use Rattle.std.specs.FinMap.{find};
 ghost use Rattle.volume_model.specs.Places.{spot_cmp};
+ghost use Rattle.dirty_store.specs.Laws.{dirty_spots};
 ghost use Rattle.dirty_store.specs.Overlay.{IsEffect, IsOverlay, clean, staged, node_of, least_cut, dirty_places, width_of};
 ghost use Rattle.dirty_store.specs.Undo.{IsUndoable, KeepsRoom, undone};
 ghost use Rattle.dirty_store.specs.Runs.{AreRunsOf};
@@ -166,6 +167,14 @@ impl DirtyStore {
     {
         let bounds = bounds_of(&self.slots, directory, 0);
         pages_of(alloc, &self.slots[bounds])
+    }
+
+    /// How many places are dirty. They are in order, and each is within the greatest size.
+    pub fn dirty_count(&self) -> usize
+        ensures count { result ≡ length (dirty_spots self.now.overlay) }
+        ensures in_order { IsOverlay self.now.overlay }
+    {
+        self.blocks.len()
     }
 
     /// One more than the greatest slot of a directory that is staged, 0 where there is none.
