@@ -10,3 +10,4 @@ pub mod Numbering
 pub mod Finished
 pub mod Reported
 pub mod OfPlaces
+pub mod StagedNumbers

@@ -10,8 +10,17 @@ use Rattle.volume_model.specs.Places.{spots_of}
 use Rattle.volume_model.specs.Point.{after_point, fresh_in, is_unused, next_point, placed_after, share_lines}
 use Rattle.volume_model.specs.ReportLaws.{IsReport}
 use Rattle.volume_model.specs.Whole.{IsWhole}
+use Rattle.dirty_store.specs.Laws.{dirty_spots}
+use Rattle.dirty_store.specs.Numbers.{AreOnce, staged_numbers}
+use Rattle.dirty_store.specs.Overlay.{Overlay}
 use Rattle.point_model.specs.NodePlan.{AreOfPlaces}
-use Rattle.fresh_runs.specs.Fresh.{blocks_in, changes_of, IsPartedInto}
+use Rattle.fresh_runs.specs.Fresh.{AreNumbersOf, blocks_in, changes_of, IsPartedInto}
+
+-- ---- numbers
+
+-- The numbers of which something is staged have those of all dirty places.
+abbrev pub StagedHaveDirty : Type 0
+StagedHaveDirty = (o : Overlay) (numbers : List ℕ) → AreOnce (staged_numbers o) numbers → AreNumbersOf (dirty_spots o) numbers
 
 -- ---- the report
 

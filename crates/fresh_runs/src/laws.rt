@@ -1,5 +1,10 @@
 //! Laws of fresh blocks, each on a function whose contract it is.
-ghost use Rattle.fresh_runs.specs.Laws.{ChangesAreOfPlaces, FreshIsReported, NothingIsShared};
+ghost use Rattle.fresh_runs.specs.Laws.{ChangesAreOfPlaces, FreshIsReported, NothingIsShared, StagedHaveDirty};
+
+/// The numbers that `DirtyStore::numbers` lists are good for `place_fresh`.
+pub fn staged_have_dirty()
+    ensures { StagedHaveDirty }
+{}
 
 /// Where nothing is shared, lines of the dirty places at unused blocks make a report of a point, which tells of these blocks.
 pub fn fresh_is_reported()
