@@ -1,0 +1,13 @@
+pub mod Growing
+pub mod Adding
+pub mod Taking
+pub mod Parting
+pub mod RunsOf
+pub mod Stretches
+pub mod Spots
+pub mod Placing
+pub mod Numbering
+pub mod Finished
+pub mod Reported
+pub mod OfPlaces
+pub mod StagedNumbers
