@@ -253,7 +253,7 @@ module _ (r : Rules) (g : Layout) (old new : List Block) (positive : 0 < r.thres
   stand_old = subst (InodesStand (blocks_in old) fresh_inode 0) index_is planned.spelled.inodes
 
   stand_new : InodesStand (blocks_in new) fresh_inode 0 (a ∷ replicate 1023 0)
-  stand_new = (record { absent = stand_old.0.absent; spelled = λ e. same a (omega arith) ∙ stand_old.0.spelled e; some = stand_old.0.some }, zeros_move (blocks_in old) (blocks_in new) 1 1023 stand_old.1)
+  stand_new = (record { absent = stand_old.0.absent; spelled = λ e. ap (take 4096) (same a (omega arith)) ∙ stand_old.0.spelled e; some = stand_old.0.some }, zeros_move (blocks_in old) (blocks_in new) 1 1023 stand_old.1)
 
   before_is : (n : ℕ) → inode_before old n ≡ fresh_inode n
   before_is n = by (nat_lt n 65536) refl
