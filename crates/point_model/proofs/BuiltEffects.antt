@@ -1,5 +1,5 @@
 -- An effect that is built of a change is the change's.
-use Rattle.std.proofs.Common.{◌≡◌, ℕ, Bool, true, false, cond, List, [], ◌∷◌, ◌++◌, length, Some, None, refl, sym, ap, ◌∙◌, arith}
+use Rattle.std.proofs.Common.{subst, ◌≡◌, ℕ, Bool, true, false, cond, List, [], ◌∷◌, ◌++◌, length, Some, None, refl, sym, ap, ◌∙◌, arith}
 use Rattle.std.specs.Prelude.{◌&&◌, ◌||◌, nat_eq, max, ◌+◌, Option, option_map}
 use Rattle.std.proofs.lemmas.Bool.{eqb-true}
 use Rattle.block_format.specs.declared.inode.Inode.{Inode}
@@ -7,17 +7,19 @@ use Rattle.block_format.specs.declared.inode.Inode.TheVariants as inode
 use Rattle.block_format.specs.declared.slot.Slot.{Slot}
 use Rattle.block_format.specs.declared.slot.Slot.TheVariants.{Unused, Entry}
 use Rattle.dir_slots.specs.Slots.{slot_at}
+use Rattle.dirty_store.specs.declared.effect.Effect.{Effect}
 use Rattle.dirty_store.specs.Laws.{changed_to, first_of_two}
 use Rattle.node_table.specs.Changes.{Does, IsMade, IsSized, IsRemoved, IsRenamed, GetsEntry, LosesEntry}
 use Rattle.node_table.specs.Held.{Nodes, held, slots_of, info}
 use Rattle.node_table.specs.declared.change.Change.{Change}
 use Rattle.node_table.specs.declared.change.Change.TheVariants.{Made, Sized, Removed, Renamed}
+use Rattle.node_table.specs.declared.held.NodeInfo.TheVariants as infos
 use Rattle.node_table.specs.declared.held.HeldNode.{HeldNode}
 use Rattle.node_table.specs.declared.held.HeldNode.TheVariants.{File, Directory}
 use Rattle.point_model.specs.Holding.{as_node}
-use Rattle.point_model.specs.NodeChanges.{slots_in, slot_changes, GivesName, BuiltIsOfChange}
+use Rattle.point_model.specs.NodeChanges.{number_of, kind_given, slots_in, slot_changes, GivesName, BuiltIsOfChange}
 use Rattle.point_model.specs.PointPlan.{told}
-use Rattle.point_model.proofs.ChangeFollows.{set_here, set_other, gets_follow, made_apart}
+use Rattle.point_model.proofs.ChangeFollows.{set_here, set_other, gets_follow, made_apart, renamed_follows}
 use Rattle.point_model.proofs.SlotsFollow.{first_within, slot_within, put_here, set_here as slot_here}
 use Rattle.point_model.proofs.StagedNodes.{spot_parts}
 use Rattle.tree_model.specs.Path.{Path, parent_of}
@@ -155,10 +157,59 @@ module _ (old new : Nodes) where
   changed Checkpoint change name gives m = absurd m
   changed End change name gives m = absurd m
 
+-- ---- the kind and size
+
+module _ (old new : Nodes) (e : Effect) where
+  -- the inode is that of the node after the change
+  abbrev IsNodes : ℕ → Type 0
+  IsNodes number = as_node e.inode (slots_of (held new number)) ≡ held new number
+
+  told_here : (number : ℕ) (h : Option HeldNode) → held new number ≡ h → told e.inode ≡ option_map info h → IsNodes number
+  told_here number h is tells = told_is e.inode (held new number) (tells ∙ sym (ap (option_map info) is))
+
+  made_node : (path : Path) (fresh : HeldNode) (change : Change) → IsMade path fresh change old new → told e.inode ≡ Some (info fresh) → IsNodes (number_of change)
+  made_node path fresh (Made parent slot number) m tells = told_here number (Some fresh) (set_here m.between new number (Some fresh) m.node) tells
+  made_node path fresh (Sized number size) m tells = absurd m
+  made_node path fresh (Removed parent slot number) m tells = absurd m
+  made_node path fresh (Renamed number from from_slot to to_slot) m tells = absurd m
+
+  sized_node : (path : Path) (size_after : ℕ → ℕ) (change : Change) → IsSized path size_after change old new → ((number size : ℕ) → change ≡ Sized number size → told e.inode ≡ Some (infos.File size)) → IsNodes (number_of change)
+  sized_node path size_after (Sized number size) m tells = told_here number (Some (File size)) (set_here old new number (Some (File size)) m.node) (tells number size refl)
+  sized_node path size_after (Made parent slot number) m tells = absurd m
+  sized_node path size_after (Removed parent slot number) m tells = absurd m
+  sized_node path size_after (Renamed number from from_slot to to_slot) m tells = absurd m
+
+  removed_node : (path : Path) (change : Change) → IsRemoved path change old new → told e.inode ≡ kind_given (Remove path) change old → IsNodes (number_of change)
+  removed_node path (Removed parent slot number) m tells = told_here number None (set_here m.between new number None m.node) tells
+  removed_node path (Made parent slot number) m tells = absurd m
+  removed_node path (Sized number size) m tells = absurd m
+  removed_node path (Renamed number from from_slot to to_slot) m tells = absurd m
+
+  renamed_node : (from to : Path) (change : Change) → IsRenamed from to change old new → told e.inode ≡ kind_given (Rename from to) change old → IsNodes (number_of change)
+  renamed_node from to (Renamed number parent slot into into_slot) m tells = (renamed_follows from to number parent slot into into_slot old new m).own.kind e.inode (told_is e.inode (held old number) tells)
+  renamed_node from to (Made parent slot number) m tells = absurd m
+  renamed_node from to (Sized number size) m tells = absurd m
+  renamed_node from to (Removed parent slot number) m tells = absurd m
+
+  node_given : (command : Command) (change : Change) → Does command change old new → told e.inode ≡ kind_given command change old → IsNodes (number_of change)
+  node_given (Mkdir path) change m tells = made_node path (Directory []) change m tells
+  node_given (Create path) change m tells = made_node path (File 0) change m tells
+  node_given (Write path offset bytes) change m tells = sized_node path (λ was. max was (offset + length bytes)) change m (λ number size is. tells ∙ ap (λ c. kind_given (Write path offset bytes) c old) is)
+  node_given (Truncate path size) change m tells = sized_node path (λ _. size) change m (λ number to is. tells ∙ ap (λ c. kind_given (Truncate path size) c old) is)
+  node_given (Remove path) change m tells = removed_node path change m tells
+  node_given (Rename from to) change m tells = renamed_node from to change m tells
+  node_given (Read path offset len) change m tells = absurd m
+  node_given (ListOf path) change m tells = absurd m
+  node_given (Stat path) change m tells = absurd m
+  node_given (Layout path) change m tells = absurd m
+  node_given Space change m tells = absurd m
+  node_given Checkpoint change m tells = absurd m
+  node_given End change m tells = absurd m
+
 pub built_is_of_change : BuiltIsOfChange
 built_is_of_change command change before after e does built = record {
   number = built.number;
-  node = told_is e.inode (held after e.number) built.kind;
+  node = subst (λ (n : ℕ). as_node e.inode (slots_of (held after n)) ≡ held after n) (sym built.number) (node_given before after e command change does built.kind);
   cut = built.cut;
   slots = λ spot. ap (λ cs. changed_to cs spot) built.slots ∙ changed before after command change built.name built.gives does spot;
 }

@@ -154,7 +154,7 @@ removed_follows path parent slot number old new m = record {
   own = set_here m.between new number None m.node;
 }
 
-renamed_follows : (from to : Path) (number parent slot into into_slot : ℕ) (old new : Nodes) → Renames from to number parent slot into into_slot old new → ChangeFollows (Renamed number parent slot into into_slot) old new
+pub renamed_follows : (from to : Path) (number parent slot into into_slot : ℕ) (old new : Nodes) → Renames from to number parent slot into into_slot old new → ChangeFollows (Renamed number parent slot into into_slot) old new
 renamed_follows from to number parent slot into into_slot old new m = record { others = λ n other. each n; own = each number }
   where
     flat : (a b : Bool) → ((a || false) || (b || false)) ≡ (a || (b || false))

@@ -20,7 +20,7 @@ use Rattle.node_table.specs.Held.{Nodes, held, info, slots_of}
 use Rattle.node_table.specs.declared.held.HeldNode.{HeldNode}
 use Rattle.point_model.specs.Holding.{HoldsMachine, HoldsNumbers, inode_before, inode_now, node_now, staged_or, is_changed, kind_of}
 use Rattle.point_model.specs.NodeChanges.{IsTableOf}
-use Rattle.point_model.specs.Staging.{IsEffectOn, StagesChange, StagingHolds}
+use Rattle.point_model.specs.Staging.{IsEffectOn, StagesChange, StagingHolds, TableHoldsTree}
 use Rattle.point_model.proofs.ChangeFollows.{ChangeFollows, change_follows}
 use Rattle.point_model.proofs.StagedNodes.{table_after, kind_after}
 use Rattle.state_laws.specs.Accepted.{IsAccepted}
@@ -169,6 +169,11 @@ table_holds before after tree same holds = record {
   others = λ n is. holds.others n (ap is_some (same n) ∙ is);
   directories = λ n slots is. holds.directories n slots (same n ∙ is);
 }
+
+pub table_holds_tree : TableHoldsTree
+table_holds_tree old o m nodes holds table =
+    let h = table_holds (node_now old o) (held nodes) m.tree (λ n. sym (table n)) holds.nodes in
+    (record { each = h.each; slots = h.slots; others = h.others }, h.directories)
 
 module _ (r : Rules) (old : List Block) (o : Overlay) (m : Machine) (command : Command) (before after : Nodes) (e : Effect) (coherent : IsCoherent r m) (accepted : IsAccepted m.tree command) (fits : IsEffect e)
     (holds : HoldsMachine old o m) (does : IsEffectOn m command e) (stages : StagesChange old o m.tree command before after e) where

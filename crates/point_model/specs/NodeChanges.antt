@@ -13,6 +13,8 @@ use Rattle.node_table.specs.declared.change.Change.{Change}
 use Rattle.node_table.specs.declared.change.Change.TheVariants.{Made, Sized, Removed, Renamed}
 use Rattle.node_table.specs.Changes.{Does}
 use Rattle.node_table.specs.Held.{Nodes, held, slots_of, info}
+use Rattle.node_table.specs.declared.held.NodeInfo.{NodeInfo}
+use Rattle.node_table.specs.declared.held.NodeInfo.TheVariants as infos
 use Rattle.point_model.specs.Holding.{inode_before, width_in, as_node, node_now}
 use Rattle.point_model.specs.PointPlan.{told}
 use Rattle.tree_model.specs.Path.{parent_of}
@@ -73,15 +75,24 @@ GivesName (Create path) name = path ≡ parent_of path ++ name ∷ []
 GivesName (Rename from to) name = to ≡ parent_of to ++ name ∷ []
 GivesName command name = Unit {0}
 
--- The effect tells the kind and size that the number has after the change, cuts what the change cuts, and has the slots that it empties and fills.
-pub record IsBuiltOf (command : Command) (change : Change) (after : Nodes) (e : Effect) : Type 0 where
+-- The kind and size that a number gets: a new directory is empty, a new file has no byte, a removed number is unused, and a renamed node stays what it is.
+abbrev pub kind_given : Command → Change → Nodes → Option NodeInfo
+kind_given (Mkdir path) change before = Some (infos.Directory 0)
+kind_given (Create path) change before = Some (infos.File 0)
+kind_given command (Sized number size) before = Some (infos.File size)
+kind_given command (Removed parent slot number) before = None
+kind_given command change before = option_map info (held before (number_of change))
+
+-- The effect tells the kind and size that the number gets, cuts what the change cuts, and has the slots that it empties and fills.
+-- All of it is known from the table before the change.
+pub record IsBuiltOf (command : Command) (change : Change) (before : Nodes) (e : Effect) : Type 0 where
   pub name : List ℕ
   pub gives : GivesName command name
   pub number : e.number ≡ number_of change
-  pub kind : told e.inode ≡ option_map info (held after e.number)
+  pub kind : told e.inode ≡ kind_given command change before
   pub cut : CutsFor change e.cut_to
   pub slots : e.slots ≡ slot_changes change name
 
--- An effect that is built of a change is the change's.
+-- An effect that is built of a change is the change's, whatever table comes of it.
 abbrev pub BuiltIsOfChange : Type 0
-BuiltIsOfChange = (command : Command) (change : Change) (before after : Nodes) (e : Effect) → Does command change before after → IsBuiltOf command change after e → IsEffectOfChange change after e
+BuiltIsOfChange = (command : Command) (change : Change) (before after : Nodes) (e : Effect) → Does command change before after → IsBuiltOf command change before e → IsEffectOfChange change after e

@@ -41,6 +41,10 @@ abbrev pub StagingHolds : Type 0
 StagingHolds = (r : Rules) (old : List Block) (o : Overlay) (m : Machine) (command : Command) (before after : Nodes) (e : Effect) → IsCoherent r m → IsAccepted m.tree command → IsEffect e
     → HoldsMachine old o m → IsEffectOn m command e → StagesChange old o m.tree command before after e → HoldsMachine old (staged o e) (done m command) × IsTableOf old (staged o e) after
 
+-- A table that has the nodes of an image and an overlay holds the machine's tree, and each directory of it is one.
+abbrev pub TableHoldsTree : Type 0
+TableHoldsTree = (old : List Block) (o : Overlay) (m : Machine) (nodes : Nodes) → HoldsMachine old o m → IsTableOf old o nodes → HoldsNodes nodes m.tree × AreDirectories nodes
+
 -- Just after a point, and at a mount before the records are done, an image and a clean overlay hold what the machine does.
 abbrev pub AtRest : Type 0
 AtRest = (old : List Block) (s : Stored) (cache : CacheList) → Stands old s → HoldsMachine old clean (at_point s.layout s.tree s.places s.point cache)

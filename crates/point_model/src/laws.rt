@@ -3,7 +3,7 @@ ghost use Rattle.point_model.specs.FreshPoint.{FreshPointIsPlanned};
 ghost use Rattle.point_model.specs.Laws.{BlocksHoldBytes, PagesAreSpelled, PlannedHasPoint, PlannedStands};
 ghost use Rattle.point_model.specs.NodeChanges.{BuiltIsOfChange, CleanNodesAre};
 ghost use Rattle.point_model.specs.RootPlan.{SwitchedRootIsPlanned};
-ghost use Rattle.point_model.specs.Staging.{AtRest, StagingHolds};
+ghost use Rattle.point_model.specs.Staging.{AtRest, StagingHolds, TableHoldsTree};
 
 /// An image in which a point is planned has all that a point owes.
 pub fn planned_has_point()
@@ -38,6 +38,11 @@ pub fn pages_are_spelled()
 /// Staging the effect of an accepted command keeps what an image and an overlay hold, and the table after the command is then theirs.
 pub fn staging_holds()
     ensures { StagingHolds }
+{}
+
+/// A table that has the nodes of an image and an overlay holds the machine's tree.
+pub fn table_holds_tree()
+    ensures { TableHoldsTree }
 {}
 
 /// An effect that is built of a change of the nodes is the change's.
