@@ -1,0 +1,12 @@
+//! What is planned of a node.
+use block_format::Inode;
+use vol_numbers::{PageList, PointerList};
+
+/// What a point plans of one node: its inode, with the tree that it will have, the blocks that are written, and the pointers that come and that go.
+#[derive(Drop)]
+pub struct NodePlan {
+    pub inode: Inode,
+    pub pages: PageList,
+    pub added: PointerList,
+    pub dropped: PointerList,
+}
