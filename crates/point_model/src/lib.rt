@@ -4,5 +4,5 @@
 mod laws;
 
 pub use laws::{
-    at_rest, blocks_hold_bytes, clean_nodes_are, pages_are_spelled, planned_has_point, planned_stands, staging_holds,
+    at_rest, blocks_hold_bytes, clean_nodes_are, counts_are_pointers, pages_are_spelled, planned_has_point, planned_stands, staging_holds,
 };
