@@ -1,13 +1,13 @@
-mod Numbers
+pub mod Numbers
 mod Spelled
-mod Counted
-mod Placed
+pub mod Counted
+pub mod Placed
 mod Places
 mod FilePlaces
 mod FileBytes
 mod Nodes
 mod OldPages
-mod KeptPages
+pub mod KeptPages
 mod DirectoriesStand
 mod Assembled
 mod Staged

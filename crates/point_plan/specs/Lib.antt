@@ -1,0 +1,5 @@
+pub mod State
+pub mod Nodes
+pub mod Carries
+pub mod Made
+pub mod Laws

@@ -1,0 +1,14 @@
+//! The plan of a consistency point: what it writes, and the inodes, the counts and the root after it.
+#![tactic(auto)]
+
+mod counting;
+mod laws;
+mod plan;
+mod planned_node;
+mod renewing;
+mod state;
+
+pub use laws::made_is_planned;
+pub use plan::Plan;
+pub use planned_node::{PlannedNode, PlannedNodeList};
+pub use state::PointState;
