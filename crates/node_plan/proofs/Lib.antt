@@ -5,3 +5,6 @@ pub mod RisingLaws
 pub mod SpelledLaws
 pub mod DirectoryLaws
 pub mod PlannedLaws
+pub mod SameTrees
+pub mod LiveTrees
+pub mod UnstagedLaws
