@@ -8,3 +8,4 @@ pub mod PlannedLaws
 pub mod SameTrees
 pub mod LiveTrees
 pub mod UnstagedLaws
+pub mod HoldsLaws

@@ -13,5 +13,5 @@ mod spelling;
 pub use directory::plan_directory;
 pub use emptying::plan_removed;
 pub use file::plan_file;
-pub use laws::unstaged_is_planned;
+pub use laws::{directory_holds, unstaged_is_planned};
 pub use plan::NodePlan;
