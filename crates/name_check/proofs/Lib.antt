@@ -4,3 +4,6 @@ pub mod SlotLaws
 pub mod ReadLaws
 pub mod BadLaws
 pub mod HeldLaws
+pub mod NamingLaws
+pub mod AmongLaws
+pub mod ReachLaws

@@ -3,3 +3,5 @@ pub mod Seeing
 pub mod Tails
 pub mod Directories
 pub mod Cause
+pub mod Names
+pub mod Reaching

@@ -4,6 +4,8 @@
 mod blocks;
 mod directory_check;
 mod fault;
+mod naming;
+mod reaching;
 mod reading;
 mod tail_check;
 
