@@ -7,3 +7,5 @@ pub mod HeldLaws
 pub mod NamingLaws
 pub mod AmongLaws
 pub mod ReachLaws
+pub mod TreeLaws
+pub mod LostLaws

@@ -5,3 +5,4 @@ pub mod Directories
 pub mod Cause
 pub mod Names
 pub mod Reaching
+pub mod Lost

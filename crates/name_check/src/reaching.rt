@@ -11,7 +11,7 @@ use std::alloc::{AllocError, Global};
 use vol_numbers::InoNo;
 
 /// The number of the root directory.
-const ROOT: InoNo = 1;
+pub(crate) const ROOT: InoNo = 1;
 
 /// A search over directories.
 #[derive(Drop)]
