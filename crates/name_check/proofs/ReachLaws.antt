@@ -1,6 +1,6 @@
 -- The search over directories.
 use Rattle.std.proofs.Common.{◌≡◌, ℕ, zero, suc, ◌+◌, ◌<◌, ◌≤◌, Bool, true, false, cond, List, [], ◌∷◌, ◌++◌, length, take, get_or, Option, Some, None, refl, sym, ap, subst, ◌∙◌, inl, inr, arith}
-use Rattle.std.specs.Prelude.{nat_eq, not, ◌||◌, ◌⊎◌, flat_map, is_some, count_by}
+use Rattle.std.specs.Prelude.{nat_eq, not, ◌||◌, ◌⊎◌, flat_map, is_some}
 use Rattle.std.specs.Ordering.{nat_cmp}
 use Rattle.std.specs.FinSet as set
 use Rattle.std.proofs.lemmas.Bool.{or_left, or_right, or_cases, eqb-true, eqb-false, eq-eqb}
@@ -36,8 +36,10 @@ module _ (reached : Numbers) (number : ℕ) (fresh : set.contains reached number
     where
       now : count_unreached (h ∷ hs) after ≡ cond (not (set.contains after h.number)) 1 0 + count_unreached hs after
       now = sum_by-cons (λ (x : Held). cond (not (set.contains after x.number)) 1 0) h hs
+
       before : count_unreached (h ∷ hs) reached ≡ cond (not (set.contains reached h.number)) 1 0 + count_unreached hs reached
       before = sum_by-cons (λ (x : Held). cond (not (set.contains reached x.number)) 1 0) h hs
+
       by : (t : Bool) → nat_eq h.number number ≡ t → count_unreached hs after + cond (is_some (slots_at hs number)) 1 0 ≤ count_unreached hs reached
           → count_unreached (h ∷ hs) after + cond (is_some (cond t (Some h.slots) (slots_at hs number))) 1 0 ≤ count_unreached (h ∷ hs) reached
       by true is rest =
@@ -55,7 +57,6 @@ module _ (reached : Numbers) (number : ℕ) (fresh : set.contains reached number
 
 module _ (held : List Held) (old new : Search) (number : ℕ) (before : IsSearch held old) (fresh : set.contains old.reached number ≡ false)
     (reached_is : new.reached ≡ set.insert old.reached number) (queue_is : new.queue.items ≡ old.queue.items ++ cond (is_some (slots_at held number)) (number ∷ []) []) where
-
   reached_now : (n : ℕ) → set.contains new.reached n ≡ (nat_eq number n || set.contains old.reached n)
   reached_now n = ap (λ (s : Numbers). set.contains s n) reached_is ∙ inserted old.reached number n
 
@@ -78,6 +79,7 @@ module _ (held : List Held) (old new : Search) (number : ℕ) (before : IsSearch
       one : (t : Bool) → is_among (cond t (number ∷ []) []) n ≡ true → nat_eq number n ≡ true
       one true is = or_none (nat_eq number n) ∙ is
       one false is = never is
+
       by : ((is_among old.queue.items n ≡ true) ⊎ (is_among (cond (is_some (slots_at held number)) (number ∷ []) []) n ≡ true)) → (nat_eq number n || set.contains old.reached n) ≡ true
       by (inl there) = or_right _ _ (before.reached n there)
       by (inr here) = or_left _ _ (one (is_some (slots_at held number)) here)
@@ -95,7 +97,7 @@ module _ (held : List Held) (old new : Search) (number : ℕ) (before : IsSearch
       long false = refl
 
   pub search_more : IsSearch held new
-  search_more = record { queued = queued_now; reached = reached_then; room = room_now; }
+  search_more = record { queued = queued_now; reached = reached_then; room = room_now }
 
   pub reaches_one : Reaches (number ∷ []) old new
   reaches_one = record {
@@ -106,10 +108,10 @@ module _ (held : List Held) (old new : Search) (number : ℕ) (before : IsSearch
 -- ---- several numbers
 
 pub reaches_none : (search : Search) → Reaches [] search search
-reaches_none search = record { reached = λ n. or_none _; queue = ([], sym (append-nil _)); }
+reaches_none search = record { reached = λ n. or_none _; queue = ([], sym (append-nil _)) }
 
 pub reaches_again : (search : Search) (number : ℕ) → set.contains search.reached number ≡ true → Reaches (number ∷ []) search search
-reaches_again search number has = record { reached = λ n. by n (nat_eq number n) refl; queue = ([], sym (append-nil _)); }
+reaches_again search number has = record { reached = λ n. by n (nat_eq number n) refl; queue = ([], sym (append-nil _)) }
   where
     by : (n : ℕ) (t : Bool) → nat_eq number n ≡ t → set.contains search.reached n ≡ (set.contains search.reached n || (t || false))
     by n true is = let has_n : set.contains search.reached n ≡ true = ap (set.contains search.reached) (sym (eqb-true number n is)) ∙ has in has_n ∙ sym (or_left _ _ has_n)
@@ -145,7 +147,6 @@ through_root held none search nothing is reaches = record {
 
 module _ (held : List Held) (old new : Search) (i d : ℕ) (through : IsThrough held old i) (lt : i < length old.queue.items) (is : get_or old.queue.items i d ≡ d)
     (after : IsSearch held new) (reaches : Reaches (named_at held d) old new) where
-
   kept : (n : ℕ) → set.contains old.reached n ≡ true → set.contains new.reached n ≡ true
   kept n has = reaches.reached n ∙ or_left _ _ has
 
@@ -223,7 +224,7 @@ search_none held search none empty = record {
   queued = λ n slots has is. never (sym (nothing_reached search.reached none n) ∙ has);
   reached = λ n has. never (ap (λ (ns : List ℕ). is_among ns n) (sym empty) ∙ has);
   room =
-    let a : length search.queue.items ≡ 0 = ap length empty in
-    let b = count_by-le-length (λ (h : Held). not (set.contains search.reached h.number)) held in
-    omega (arith, a, b);
+      let a : length search.queue.items ≡ 0 = ap length empty in
+      let b = count_by-le-length (λ (h : Held). not (set.contains search.reached h.number)) held in
+      omega (arith, a, b);
 }

@@ -1,9 +1,7 @@
 -- What is named and reached in what is seen, as the directories that are held have it.
-use Rattle.std.proofs.Common.{◌≡◌, ℕ, zero, suc, ◌+◌, ◌<◌, ◌≤◌, Bool, true, false, cond, List, [], ◌∷◌, ◌++◌, length, map, replicate, Option, Some, None, refl, sym, ap, subst, ◌∙◌, arith}
-use Rattle.std.specs.Prelude.{nat_eq, nat_lt, ◌==◌, ◌||◌, ◌&&◌, not, flat_map, filter_map, count_by}
-use Rattle.std.specs.List.{list_any}
+use Rattle.std.proofs.Common.{◌≡◌, ℕ, zero, suc, ◌+◌, ◌<◌, ◌≤◌, Bool, false, cond, List, [], ◌∷◌, ◌++◌, length, map, replicate, Option, Some, None, refl, sym, ap, ◌∙◌, arith}
+use Rattle.std.specs.Prelude.{nat_eq, nat_lt, ◌==◌, ◌||◌, ◌&&◌, not, flat_map, filter_map}
 use Rattle.std.specs.FinSet as set
-use Rattle.std.specs.Ordering.{nat_cmp}
 use Rattle.std.proofs.lemmas.Bool.{eq-eqb, lt-ltb, ne_eqb}
 use Rattle.std.proofs.lemmas.Bool.Decides.{nat_tests}
 use Rattle.std.proofs.lemmas.List.{append-nil, length-map}
@@ -15,11 +13,11 @@ use Rattle.block_format.specs.declared.slot.Slot.TheVariants as slot
 use Rattle.held_list.specs.Held.{slots_at}
 use Rattle.held_list.specs.declared.held.Held.{Held}
 use Rattle.place_words.specs.Rising.{Rising}
-use Rattle.image_model.specs.Nodes.{number_named, numbers_named, reached_in, is_root_named, is_unused_named, is_not_named_once, is_unreached, is_lost}
+use Rattle.image_model.specs.Nodes.{number_named, numbers_named, reached_in, is_root_named, is_unused_named, is_not_named_once, is_lost}
 use Rattle.image_model.specs.Seen.{Seen}
 use Rattle.image_model.specs.Slots.{slots_of, inode_of}
 use Rattle.image_model.specs.Walk.{is_used}
-use Rattle.name_check.specs.Lost.{TellsLost, is_lost_by, times_marked}
+use Rattle.name_check.specs.Lost.{TellsLost, times_marked}
 use Rattle.name_check.specs.Names.{HasNamed, numbers_in, numbers_by, times}
 use Rattle.name_check.specs.Reaching.{is_among, numbers_of, named_at, reached_from}
 use Rattle.name_check.specs.Seeing.{HoldsDirectories, directory_numbers}
@@ -144,5 +142,6 @@ marks_tell s held marks holds rise used naming reached n from at_most =
   where
     tell : Bool → Bool → Bool → Bool → Bool
     tell once again used reached = is_root_named n (times_marked once again) || is_unused_named used (times_marked once again) || is_not_named_once used n (times_marked once again) || (used && not reached)
+
     whole : List ℕ → List ℕ → Bool
     whole named found = is_lost s named found n

@@ -6,3 +6,4 @@ pub mod Cause
 pub mod Names
 pub mod Reaching
 pub mod Lost
+pub mod Tree

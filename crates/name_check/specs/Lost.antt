@@ -1,10 +1,8 @@
 -- Which numbers are named or reached wrongly, by sets of numbers.
-use Rattle.std.specs.Prelude.{◌≡◌, ◌≤◌, ◌<◌, ◌&&◌, ◌||◌, not, ℕ, Bool, true, false, length, Some}
+use Rattle.std.specs.Prelude.{◌≡◌, ◌≤◌, ◌<◌, ◌&&◌, ◌||◌, not, ℕ, Bool, true, false, length}
 use Rattle.std.specs.FinSet as set
-use Rattle.image_model.specs.Nodes.{is_root_named, is_unused_named, is_not_named_once, is_lost, numbers_named, reached_in, tree_finding}
+use Rattle.image_model.specs.Nodes.{is_root_named, is_unused_named, is_not_named_once, is_lost, numbers_named, reached_in}
 use Rattle.image_model.specs.Seen.{Seen}
-use Rattle.name_check.specs.declared.fault.NameFault.{NameFault}
-use Rattle.name_check.specs.declared.fault.NameFault.TheVariants.{Found, Device, OutOfMemory}
 use Rattle.name_check.specs.declared.lost.Marks.{Marks}
 
 -- how often a number is named, where two stands for more
@@ -12,6 +10,10 @@ abbrev pub times_marked : Bool → Bool → ℕ
 times_marked false again = 0
 times_marked true false = 1
 times_marked true true = 2
+
+-- whether a node's number is the root's and named, or another's and not named once
+abbrev pub is_misnamed_by : Bool → Bool → ℕ → Bool
+is_misnamed_by once again n = is_root_named n (times_marked once again) || is_not_named_once true n (times_marked once again)
 
 -- whether a number is named or reached wrongly, by the marks
 abbrev pub is_lost_by : Marks → ℕ → Bool
@@ -30,9 +32,3 @@ pub record IsFirstLost (marks : Marks) (number : ℕ) : Type 0 where
 -- The marks tell of each number from 1 to 65,535 whether it is named or reached wrongly in what is seen.
 abbrev pub TellsLost : Seen → Marks → Type 0
 TellsLost s marks = (n : ℕ) → 1 ≤ n → n ≤ 65535 → is_lost_by marks n ≡ is_lost s (numbers_named s s.nodes) (reached_in s (length s.nodes)) n
-
--- what is found is the number that is named or reached wrongly first
-abbrev pub FindsInTree : Seen → NameFault → Type 0
-FindsInTree s (Found f) = tree_finding s ≡ Some f
-FindsInTree s Device = Unit {0}
-FindsInTree s OutOfMemory = Unit {0}

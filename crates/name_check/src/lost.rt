@@ -5,7 +5,7 @@ ghost use Rattle.place_words.specs.Rising.{Rising};
 ghost use Rattle.image_model.specs.Seen.{Seen};
 ghost use Rattle.image_model.specs.Slots.{inode_of};
 ghost use Rattle.image_model.specs.Walk.{is_used};
-ghost use Rattle.name_check.specs.Lost.{IsFirstLost, TellsLost, is_lost_by};
+ghost use Rattle.name_check.specs.Lost.{IsFirstLost, TellsLost, is_lost_by, is_misnamed_by};
 ghost use Rattle.name_check.specs.Seeing.{HoldsDirectories};
 
 use crate::naming::{Naming, all_names};
@@ -73,25 +73,31 @@ pub(crate) fn marks_of(
     })
 }
 
-/// Whether a number is the root's and named, or unused and named, or another's and not named once, or used and not reached.
+/// Whether a node is the root and named, or another and not named once.
+fn is_misnamed(naming: &Naming, number: InoNo) -> bool
+    requires { 1 ≤ number }
+    ensures { result ≡ is_misnamed_by (set.contains naming.now.once number) (set.contains naming.now.again number) number }
+{
+    let named = naming.once.has(number);
+    if number == ROOT {
+        named
+    } else {
+        !named || naming.again.has(number)
+    }
+}
+
+/// Whether a number is unused and named, or that of a node that is misnamed or not reached.
 fn is_lost(marks: &Marks, number: InoNo) -> bool
     requires { 1 ≤ number }
     ensures { result ≡ is_lost_by marks.now number }
 {
-    let named = marks.naming.once.has(number);
     if !marks.used.has(number) {
-        return named;
+        return marks.naming.once.has(number);
     }
     if !marks.reached.has(number) {
         return true;
     }
-    if number == ROOT {
-        return named;
-    }
-    if !named {
-        return true;
-    }
-    marks.naming.again.has(number)
+    is_misnamed(&marks.naming, number)
 }
 
 /// The least number from 1 to 65,535 that is named or reached wrongly. Each is looked at once.

@@ -4,7 +4,7 @@ ghost use Rattle.place_words.specs.Rising.{Rising};
 ghost use Rattle.image_model.specs.Nodes.{tree_finding};
 ghost use Rattle.image_model.specs.Seen.{Seen};
 ghost use Rattle.name_check.specs.Cause.{IsOwn};
-ghost use Rattle.name_check.specs.Lost.{FindsInTree};
+ghost use Rattle.name_check.specs.Tree.{FindsInTree};
 ghost use Rattle.name_check.specs.Seeing.{HoldsDirectories};
 
 use crate::NameFault;

@@ -1,4 +1,4 @@
-use Rattle.std.proofs.Common.{◌≡◌, ◌∙◌, ◌+◌, ◌<◌, ◌++◌, ℕ, List, length, get_or, take, ap, subst}
+use Rattle.std.proofs.Common.{◌≡◌, ◌∙◌, ◌<◌, ◌++◌, ℕ, List, length, get_or, take, ap, subst}
 use Rattle.held_list.specs.declared.held.Held.{Held}
 use Rattle.name_check.specs.Names.{HasNamed, numbers_in, numbers_by}
 use Rattle.name_check.proofs.NamingLaws.{numbers_by_more}

@@ -1,8 +1,7 @@
-use Rattle.std.proofs.Common.{◌≡◌, ◌∙◌, ◌++◌, ℕ, Option, [], ap, sym}
+use Rattle.std.proofs.Common.{◌∙◌, ◌++◌, ℕ, Option, [], ap, sym}
 use Rattle.std.specs.List.{filter_map, cons_option}
 use Rattle.std.proofs.lemmas.List.{take_all, append-nil}
 use Rattle.image_model.specs.Nodes.{number_named}
-use Rattle.name_check.specs.Names.{numbers_in}
 use Rattle.name_check.proofs.NamingLaws.{of_entries, numbers_at_most, number_more}
 use Rattle.name_check.proofs.naming.numbers.Goals as goal
 use Rattle.name_check.proofs.naming.numbers.Goals.{in-Some+in_ok-push-in-Some, in-None}

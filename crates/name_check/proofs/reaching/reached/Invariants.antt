@@ -1,4 +1,3 @@
-use Rattle.std.proofs.Common.{◌≡◌}
 use Rattle.name_check.proofs.ReachLaws.{IsThrough}
 use Rattle.name_check.proofs.reaching.reached.Given as goal
 
