@@ -54,61 +54,63 @@ fn used_numbers(alloc: Global, nodes: &[(InoNo, Inode)]) -> Result<NumberSet, Al
     Ok(used)
 }
 
-/// What nodes and directories tell of numbers.
-pub(crate) fn marks_of(
-    alloc: Global,
-    nodes: &[(InoNo, Inode)],
-    directories: &HeldList,
-) -> Result<Marks, AllocError>
-    requires { Rising 0 (map (λ node. node.0) nodes.now) }
-    ensures { IfOk result (λ marks. (s : Seen) → s.nodes ≡ nodes.now → HoldsDirectories s directories.now → TellsLost s marks) }
-{
-    let used = used_numbers(alloc, nodes)?;
-    let naming = all_names(alloc, directories)?;
-    let reached = reached(alloc, directories)?;
-    Ok(Marks {
-        used,
-        naming,
-        reached,
-    })
-}
-
-/// Whether a node is the root and named, or another and not named once.
-fn is_misnamed(naming: &Naming, number: InoNo) -> bool
-    requires { 1 ≤ number }
-    ensures { result ≡ is_misnamed_by (set.contains naming.now.once number) (set.contains naming.now.again number) number }
-{
-    let named = naming.once.has(number);
-    if number == ROOT {
-        named
-    } else {
-        !named || naming.again.has(number)
+impl Marks {
+    /// What nodes and directories tell of numbers.
+    pub(crate) fn new(
+        alloc: Global,
+        nodes: &[(InoNo, Inode)],
+        directories: &HeldList,
+    ) -> Result<Marks, AllocError>
+        requires { Rising 0 (map (λ node. node.0) nodes.now) }
+        ensures { IfOk result (λ marks. (s : Seen) → s.nodes ≡ nodes.now → HoldsDirectories s directories.now → TellsLost s marks) }
+    {
+        let used = used_numbers(alloc, nodes)?;
+        let naming = all_names(alloc, directories)?;
+        let reached = reached(alloc, directories)?;
+        Ok(Marks {
+            used,
+            naming,
+            reached,
+        })
     }
-}
 
-/// Whether a number is unused and named, or that of a node that is misnamed or not reached.
-fn is_lost(marks: &Marks, number: InoNo) -> bool
-    requires { 1 ≤ number }
-    ensures { result ≡ is_lost_by marks.now number }
-{
-    if !marks.used.has(number) {
-        return marks.naming.once.has(number);
-    }
-    if !marks.reached.has(number) {
-        return true;
-    }
-    is_misnamed(&marks.naming, number)
-}
-
-/// The least number from 1 to 65,535 that is named or reached wrongly. Each is looked at once.
-pub(crate) fn first_lost(marks: &Marks) -> Option<InoNo>
-    ensures first { IfSome result (λ number. IsFirstLost marks.now number) }
-    ensures none { IfNone result ((n : ℕ) → 1 ≤ n → n ≤ 65535 → is_lost_by marks.now n ≡ false) }
-{
-    for number in 1..MOST_NUMBER + 1 {
-        if is_lost(marks, number) {
-            return Some(number);
+    /// Whether a node is the root and named, or another and not named once.
+    fn is_misnamed(&self, number: InoNo) -> bool
+        requires { 1 ≤ number }
+        ensures { result ≡ is_misnamed_by (set.contains self.now.naming.once number) (set.contains self.now.naming.again number) number }
+    {
+        let named = self.naming.once.has(number);
+        if number == ROOT {
+            named
+        } else {
+            !named || self.naming.again.has(number)
         }
     }
-    None
+
+    /// Whether a number is unused and named, or that of a node that is misnamed or not reached.
+    fn is_lost(&self, number: InoNo) -> bool
+        requires { 1 ≤ number }
+        ensures { result ≡ is_lost_by self.now number }
+    {
+        if !self.used.has(number) {
+            return self.naming.once.has(number);
+        }
+        if !self.reached.has(number) {
+            return true;
+        }
+        self.is_misnamed(number)
+    }
+
+    /// The least number from 1 to 65,535 that is named or reached wrongly. Each is looked at once.
+    pub(crate) fn first_lost(&self) -> Option<InoNo>
+        ensures first { IfSome result (λ number. IsFirstLost self.now number) }
+        ensures none { IfNone result ((n : ℕ) → 1 ≤ n → n ≤ 65535 → is_lost_by self.now n ≡ false) }
+    {
+        for number in 1..MOST_NUMBER + 1 {
+            if self.is_lost(number) {
+                return Some(number);
+            }
+        }
+        None
+    }
 }

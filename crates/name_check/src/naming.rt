@@ -19,34 +19,36 @@ pub(crate) struct Naming {
     pub(crate) again: NumberSet,
 }
 
-/// Nothing is named. It takes memory for two sets.
-fn no_names(alloc: Global) -> Result<Naming, AllocError>
-    ensures { IfOk result (λ naming. HasNamed naming []) }
-{
-    let once = NumberSet::new(alloc)?;
-    let again = NumberSet::new(alloc)?;
-    Ok(Naming { once, again })
-}
-
-/// A number is named, once more where it was named before.
-fn put_name(naming: &mut Naming, number: InoNo)
-    requires { number ≤ 65535 }
-    ensures { (named : List ℕ) → HasNamed naming.old named → HasNamed naming.new (named ++ number ∷ []) }
-{
-    if naming.once.has(number) {
-        naming.again.put(number);
-    } else {
-        naming.once.put(number);
+impl Naming {
+    /// Nothing is named. It takes memory for two sets.
+    fn new(alloc: Global) -> Result<Naming, AllocError>
+        ensures { IfOk result (λ naming. HasNamed naming []) }
+    {
+        let once = NumberSet::new(alloc)?;
+        let again = NumberSet::new(alloc)?;
+        Ok(Naming { once, again })
     }
-}
 
-/// Each of these numbers is named.
-fn put_names(naming: &mut Naming, numbers: &[InoNo])
-    requires { All (λ n. n ≤ 65535) numbers.now }
-    ensures { (named : List ℕ) → HasNamed naming.old named → HasNamed naming.new (named ++ numbers.now) }
-{
-    for number in numbers {
-        put_name(naming, *number);
+    /// A number is named, once more where it was named before.
+    fn put(&mut self, number: InoNo)
+        requires { number ≤ 65535 }
+        ensures { (named : List ℕ) → HasNamed self.old named → HasNamed self.new (named ++ number ∷ []) }
+    {
+        if self.once.has(number) {
+            self.again.put(number);
+        } else {
+            self.once.put(number);
+        }
+    }
+
+    /// Each of these numbers is named.
+    fn put_all(&mut self, numbers: &[InoNo])
+        requires { All (λ n. n ≤ 65535) numbers.now }
+        ensures { (named : List ℕ) → HasNamed self.old named → HasNamed self.new (named ++ numbers.now) }
+    {
+        for number in numbers {
+            self.put(*number);
+        }
     }
 }
 
@@ -80,10 +82,10 @@ pub(crate) fn numbers(alloc: Global, slots: &Directory) -> Result<Vec<InoNo>, Al
 pub(crate) fn all_names(alloc: Global, directories: &HeldList) -> Result<Naming, AllocError>
     ensures { IfOk result (λ naming. HasNamed naming (numbers_by directories.now)) }
 {
-    let mut naming = no_names(alloc)?;
+    let mut naming = Naming::new(alloc)?;
     for held in directories.as_slice() {
         let numbers = numbers(alloc, &held.slots)?;
-        put_names(&mut naming, &numbers);
+        naming.put_all(&numbers);
     }
     Ok(naming)
 }

@@ -8,7 +8,7 @@ ghost use Rattle.name_check.specs.Tree.{FindsInTree};
 ghost use Rattle.name_check.specs.Seeing.{HoldsDirectories};
 
 use crate::NameFault;
-use crate::lost::{first_lost, marks_of};
+use crate::lost::Marks;
 use block_format::Inode;
 use held_list::HeldList;
 use image_model::Finding;
@@ -29,8 +29,8 @@ pub fn tree(
     ensures found { IfErr result (λ fault. (s : Seen) → s.nodes ≡ nodes.now → HoldsDirectories s directories.now → FindsInTree s fault) }
     ensures cause { IfErr result (λ fault. IsOwn fault) }
 {
-    let marks = marks_of(alloc, nodes, directories)?;
-    match first_lost(&marks) {
+    let marks = Marks::new(alloc, nodes, directories)?;
+    match marks.first_lost() {
         Some(number) => Err(NameFault::Found(Finding::NotATree(number))),
         None => Ok(()),
     }

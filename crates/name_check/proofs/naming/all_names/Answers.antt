@@ -10,6 +10,6 @@ loop-held-preserved c =
     let held = c.args.directories.now in
     let here : c.held-item.result ≡ get_or held k c.held-item.result = c.held-item.is ∙ ap (λ (hs : List Held). get_or hs k c.held-item.result) c.as_slice-held-items.ensures.is in
     let lt : k < length held = subst (λ (hs : List Held). k < length hs) c.as_slice-held-items.ensures.is c.loop-held-test.true in
-    subst (λ (ns : List ℕ). HasNamed c.put_names.new.naming ns)
+    subst (λ (ns : List ℕ). HasNamed c.put_all.new.self ns)
     (ap (λ (ns : List ℕ). numbers_by (take k held) ++ ns) (c.deref.ensures.value ∙ c.in_ok-numbers.ensures.named ∙ ap (λ (h : Held). numbers_in h.slots) here) ∙ numbers_by_more held k c.held-item.result lt)
-    (c.put_names.ensures (numbers_by (take k held)) c.loop-held.invariant)
+    (c.put_all.ensures (numbers_by (take k held)) c.loop-held.invariant)

@@ -5,7 +5,7 @@ use Rattle.place_words.specs.Rising.{Rising}
 use Rattle.image_model.specs.Slots.{inode_of}
 use Rattle.image_model.specs.Walk.{is_used}
 use Rattle.name_check.proofs.TreeLaws.{marks_tell}
-use Rattle.name_check.proofs.lost.marks_of.Goals as goal
+use Rattle.name_check.proofs.lost.Marks.new.Goals as goal
 
 pub returns : goal.returns
 returns c s same holds =

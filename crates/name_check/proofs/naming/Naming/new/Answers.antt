@@ -1,5 +1,5 @@
 use Rattle.name_check.proofs.NamingLaws.{none_named}
-use Rattle.name_check.proofs.naming.no_names.Goals as goal
+use Rattle.name_check.proofs.naming.Naming.new.Goals as goal
 
 pub returns : goal.returns
 returns c = none_named _ c.in_ok-once.ensures c.in_ok-again.ensures

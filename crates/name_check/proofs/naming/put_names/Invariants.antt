@@ -1,6 +1,0 @@
-use Rattle.std.proofs.Common.{◌++◌, ℕ, List, take}
-use Rattle.name_check.specs.Names.{HasNamed}
-use Rattle.name_check.proofs.naming.put_names.Given as goal
-
-abbrev pub invariant-loop-number : goal.invariant-loop-number
-invariant-loop-number l = (named : List ℕ) → HasNamed l.fn.naming named → HasNamed l.naming (named ++ take l.number-index l.numbers)
