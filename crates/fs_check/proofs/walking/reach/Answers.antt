@@ -1,4 +1,4 @@
-use Rattle.std.proofs.Common.{◌≡◌, [], List, None, sym, subst}
+use Rattle.std.proofs.Common.{◌≡◌, [], List, None, refl, sym, subst}
 use Rattle.block_format.specs.Root.{root_of}
 use Rattle.block_tree.specs.Tree.{blocks_in}
 use Rattle.image_model.specs.Findings.{walk_finding}
@@ -35,7 +35,7 @@ returns-clause-found g c tells =
 pub returns-clause-seen : goal.returns-clause-seen
 returns-clause-seen g c tells =
     let w = c.in_ok-walked.ensures in
-    is_seen (g.D.Disk.state c.args.disk.now).contents c.args.body.now (c.requires.root tells) c.in_ok-walked.walked (w.nodes tells) (w.marks tells) (w.pages tells) (w.owners tt tells) (w.ends tells)
+    is_seen (g.D.Disk.state c.args.disk.now).contents c.args.body.now (c.requires.root tells) c.in_ok-walked.walked (w.nodes tells) (w.marks tells) (w.pages tells) (w.owners refl tells) (w.ends tells)
 
 pub returns-clause-left : goal.returns-clause-left
 returns-clause-left g c =
