@@ -1,0 +1,3 @@
+mod CauseLaws
+mod LogLaws
+mod PhaseLaws
