@@ -1,6 +1,6 @@
 -- A place of a file: staged, cut off, or as it was at the last point.
 use Rattle.std.proofs.Common.{◌≡◌, ℕ, ◌<◌, ◌≤◌, Bool, true, false, cond, List, [], ◌∷◌, map, length, replicate, Some, None, refl, sym, ap, subst, ◌∙◌, arith}
-use Rattle.std.specs.Prelude.{◌==◌, ◌||◌, nat_lt, nat_le, Option}
+use Rattle.std.specs.Prelude.{◌==◌, ◌||◌, nat_lt, nat_le}
 use Rattle.std.specs.FinMap.{find}
 use Rattle.std.proofs.lemmas.Bool.Decides.{nat_tests}
 use Rattle.std.proofs.lemmas.List.{take_at}
@@ -20,7 +20,7 @@ use Rattle.point_model.specs.Holding.{inode_before}
 use Rattle.state_laws.specs.Files.{zero_block}
 use Rattle.state_laws.proofs.HeldBytes.{found_spot}
 use Rattle.volume_model.specs.Machine.{Machine, Rules, block_at, stored}
-use Rattle.volume_model.specs.Places.{Spot, Places, spot_cmp, spot_eq, has_spot, spots_of}
+use Rattle.volume_model.specs.Places.{Spot, spot_cmp, spot_eq, has_spot, spots_of}
 use Rattle.volume_model.proofs.PlacesTold.{tie_is, find_none}
 
 -- a spot that isn't found isn't there

@@ -1,4 +1,4 @@
-use Rattle.std.proofs.Common.{◌≡◌, ◌∙◌, ap, sym}
+use Rattle.std.proofs.Common.{◌∙◌, ap, sym}
 use Rattle.vol_numbers.specs.declared.block.Block.{Block}
 use Rattle.block_tree.specs.Tree.{blocks_in}
 use Rattle.block_tree.proofs.EntryLaws.{block_read}
