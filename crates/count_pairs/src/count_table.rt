@@ -74,6 +74,13 @@ impl CountTable {
         self.counts[b as usize]
     }
 
+    /// The counts of all blocks, from that of block 0 on.
+    pub fn as_slice(&self) -> &[u32]
+        ensures { result.now ≡ self.now.counts }
+    {
+        self.counts.as_slice()
+    }
+
     /// One pointer more leads to a block.
     pub fn add(&mut self, b: BlockNo)
         requires known { b < length self.old.counts }

@@ -1,0 +1,30 @@
+-- What taking a point does.
+use Rattle.std.specs.Prelude.{◌≡◌, ◌⊎◌, ◌<◌, List, []}
+use Rattle.vol_numbers.specs.declared.block.Block.{Block}
+use Rattle.disk_model.specs.Disk.{State}
+use Rattle.image_model.specs.Stands.{Stands}
+use Rattle.point_plan.specs.State.{HoldsPoint}
+use Rattle.point_plan.specs.declared.state.PointState.{PointState}
+use Rattle.tree_model.specs.declared.report.Report.{Report}
+use Rattle.volume_model.specs.Machine.{Machine, Rules, stored}
+use Rattle.volume_model.specs.Point.{after_point, fresh_in}
+use Rattle.volume_model.specs.ReportLaws.{IsReport}
+
+-- The cache list has no room, so nothing is shared.
+pub record SharesNothing (r : Rules) : Type 0 where
+  pub capacity : r.capacity ≡ 0
+  pub threshold : 0 < r.threshold
+
+-- Disk and memory hold this machine: nothing is unsynced, and the memory holds it over the contents.
+pub record IsHeld (r : Rules) (m : Machine) (s : State) (state : PointState) : Type 0 where
+  pub shares : SharesNothing r
+  pub synced : s.unsynced ≡ []
+  pub holds : HoldsPoint r m s.contents state
+
+-- they hold some machine
+abbrev pub HoldsSome : State → PointState → Type 0
+HoldsSome s state = (r : Rules) × (m : Machine) × IsHeld r m s state
+
+-- The image stands for what the machine stores, or for what it stores after one of its points.
+abbrev pub StandsThrough : Rules → Machine → List Block → Type 0
+StandsThrough r m image = Stands image (stored m) ⊎ ((report : Report) × IsReport r m report × Stands image (stored (after_point r m (fresh_in report))))

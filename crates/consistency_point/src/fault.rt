@@ -1,0 +1,18 @@
+//! Why a point isn't taken.
+use thiserror::Error;
+use vol_numbers::BlockNo;
+
+/// Why a point was not taken. After `WriteFault` the state is spent, and after every other one all is as it was.
+#[derive(Clone, Copy, Debug, PartialEq, Eq, Error)]
+pub enum PointFault {
+    #[error("a read failed")]
+    ReadFault,
+    #[error("block {0} is outside the grammar of an index block")]
+    Damaged(BlockNo),
+    #[error("a write or a sync failed")]
+    WriteFault,
+    #[error("memory is wanting")]
+    OutOfMemory,
+    #[error("of the {free} free blocks too few are left after the point")]
+    Short { free: u32 },
+}

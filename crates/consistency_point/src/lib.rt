@@ -1,0 +1,7 @@
+//! The consistency point: what was staged is written to free blocks, and made current by one switch of the root.
+#![tactic(auto)]
+
+mod fault;
+
+pub use fault::PointFault;
+pub use point_plan::PointState;

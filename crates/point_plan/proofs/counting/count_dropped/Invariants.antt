@@ -1,0 +1,13 @@
+use Rattle.std.proofs.Common.{◌≡◌, ◌<◌, ◌≤◌, ◌+◌, ℕ, List, length, take, slice_index}
+use Rattle.count_pairs.specs.Homes.{Blocks}
+use Rattle.count_pairs.specs.Table.{IsKept}
+use Rattle.place_words.specs.Different.{times}
+use Rattle.point_plan.proofs.counting.count_dropped.Given as goal
+
+abbrev pub invariant-loop-b : goal.invariant-loop-b
+invariant-loop-b l = record {
+  counted : (b : ℕ) → b < length l.fn.counts.counts → times b (take l.b-index l.dropped) ≤ slice_index l.fn.counts.counts b
+      → slice_index l.counts.counts b + times b (take l.b-index l.dropped) ≡ slice_index l.fn.counts.counts b;
+  long : length l.counts.counts ≡ length l.fn.counts.counts;
+  kept : (read : Blocks) (homes : List ℕ) → IsKept read homes l.fn.counts → IsKept read homes l.counts;
+}

@@ -1,0 +1,29 @@
+-- Planned nodes by their numbers.
+use Rattle.std.specs.Prelude.{◌≤◌, ◌<◌, ℕ, ◌+◌, ◌==◌, if◌then◌else◌, List, [], ◌∷◌, Option, Some, None}
+use Rattle.block_format.specs.declared.inode.Inode.{Inode}
+use Rattle.point_plan.specs.declared.planned_node.PlannedNode.{PlannedNode}
+
+-- their numbers rise, from one on that is at least this, and are those of nodes
+abbrev pub Ascend : ℕ → List PlannedNode → Type 0
+Ascend least [] = Unit {0}
+Ascend least (p ∷ ps) = (least ≤ p.number) × (p.number < 65536) × Ascend (p.number + 1) ps
+
+-- what is planned of a number
+abbrev pub planned_of : List PlannedNode → ℕ → Option PlannedNode
+planned_of [] n = None
+planned_of (p ∷ ps) n = if p.number == n then Some p else planned_of ps n
+
+-- the planned inode of a number, and that of before where none is planned
+abbrev pub inode_or : Option PlannedNode → Inode → Inode
+inode_or None before = before
+inode_or (Some p) before = p.is
+
+-- the pointers that come to a number's blocks, none where nothing is planned
+abbrev pub added_in : Option PlannedNode → List ℕ
+added_in None = []
+added_in (Some p) = p.added
+
+-- the pointers that go
+abbrev pub dropped_in : Option PlannedNode → List ℕ
+dropped_in None = []
+dropped_in (Some p) = p.dropped

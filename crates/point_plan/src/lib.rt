@@ -1,0 +1,11 @@
+//! The plan of a consistency point: what it writes, and the inodes, the counts and the root after it.
+#![tactic(auto)]
+
+mod counting;
+mod plan;
+mod planned_node;
+mod state;
+
+pub use plan::Plan;
+pub use planned_node::{PlannedNode, PlannedNodeList};
+pub use state::PointState;

@@ -1,0 +1,21 @@
+//! What is planned of a node.
+use block_format::Inode;
+use vol_numbers::{InoNo, ItemList, PageList, PointerList};
+
+/// A node that has changed since the last point, and what becomes of its blocks.
+#[derive(Drop)]
+pub struct PlannedNode {
+    pub number: InoNo,
+    /// Its inode at the last point.
+    pub was: Inode,
+    /// Its inode after this one, which leads to its new blocks.
+    pub is: Inode,
+    /// The blocks of its index and of its directory that are written afresh.
+    pub pages: PageList,
+    /// The pointers that come and those that go, with repeats.
+    pub added: PointerList,
+    pub dropped: PointerList,
+}
+
+/// Nodes that have changed, by number.
+pub type PlannedNodeList = ItemList<PlannedNode>;
