@@ -3,6 +3,7 @@ use Rattle.std.proofs.Common.{◌≡◌, ℕ, zero, suc, ◌+◌, ◌*◌, ◌^�
 use Rattle.std.specs.Prelude.{◌==◌, ◌||◌, nat_eq, option_map, Contains}
 use Rattle.std.specs.List.{AllByRecursion, flat_map}
 use Rattle.std.proofs.lemmas.Bool.Decides.{nat_tests}
+use Rattle.std.proofs.lemmas.List.{take_all}
 use Rattle.std.proofs.lemmas.List.Sums.{sum_by-cons}
 use Rattle.vol_numbers.specs.Layout.{Layout, area_start, count_blocks}
 use Rattle.vol_numbers.specs.declared.block.Block.{Block}
@@ -30,11 +31,12 @@ use Rattle.image_model.specs.Plan.{IsPlanned, metas_of}
 use Rattle.image_model.specs.Point.{HasPoint, IsAssembled}
 use Rattle.image_model.specs.Met.{Met, index, points_at, metas, files, pointers_to, NoFaults}
 use Rattle.image_model.specs.Nodes.{has_tail, is_bad_directory, AllBelow, blocks_in_node}
-use Rattle.image_model.specs.Planned.{InodesStand, HasSpellings, IsSpelled, used_from, node_trees, height_in}
+use Rattle.image_model.specs.Planned.{inodes_bytes, InodesStand, HasSpellings, IsSpelled, used_from, node_trees, height_in}
 use Rattle.image_model.specs.Seen.{Seen, seen, seen_from, all_held, page_held, content_held, counts_from}
 use Rattle.image_model.specs.Slots.{inode_of}
 use Rattle.image_model.specs.Stands.{Stands, node_of, layout_in, spot_of}
 use Rattle.image_model.specs.Walk.{is_used, walk, nodes_at}
+use Rattle.image_model.proofs.InodeSpelled.{inodes_long}
 use Rattle.image_model.proofs.PointLaws.{assembled_stands}
 use Rattle.image_model.proofs.WalkSpelled.{walk_spelled, nodes_spelled, counts_spelled}
 
@@ -116,7 +118,7 @@ module _ (g : Layout) (image : List Block) (fresh : IsFresh g image) where
     inodes = subst (InodesStand read fresh_inode 0) (sym index_is) (
       record {
         absent = λ e. let is = some_block a (omega (arith, low)) in cc;
-        spelled = λ e. fresh.inodes;
+        spelled = λ e. ap (take 4096) fresh.inodes ∙ take_all 4096 (inodes_bytes fresh_inode 0 64) (omega (arith, inodes_long fresh_inode 0 64));
         some = λ e. omega (arith, ap (λ (nodes : List (ℕ × Inode)). length nodes) (one_used 62));
       },
       zeros_stand read 1 1023 (omega arith),

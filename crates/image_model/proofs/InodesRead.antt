@@ -3,7 +3,7 @@ use Rattle.std.proofs.Common.{◌≡◌, ℕ, zero, suc, ◌+◌, ◌*◌, ◌^�
 use Rattle.std.specs.Prelude.{◌==◌, ◌&&◌, bytes_eq}
 use Rattle.std.specs.List.{list_any, AllByRecursion, flat_map}
 use Rattle.std.proofs.lemmas.Bool.Decides.{nat_tests}
-use Rattle.std.proofs.lemmas.List.{take-append-drop, length-drop}
+use Rattle.std.proofs.lemmas.List.{take-append-drop, length-drop, take_all}
 use Rattle.std.proofs.lemmas.List.Concat.{flat_map-cons}
 use Rattle.std.proofs.lemmas.Slice.Eq.{bytes_eq-Decides}
 use Rattle.byteorder.specs.Endian.{little_bytes, little_number}
@@ -171,6 +171,9 @@ unfolding used_from
 none_used inode n zero none = refl
 none_used inode n (suc m) none = λ i. cond (is_used (none n (omega arith) (omega arith) i)) ((n, none n (omega arith) (omega arith) i) ∷ []) [] ++ none_used inode (n + 1) m (λ j le lt. none j (omega (arith, le)) (omega (arith, lt))) i
 
+take_whole : (bytes : List ℕ) → length bytes ≡ 4096 → take 4096 bytes ≡ bytes
+take_whole bytes long = take_all 4096 bytes (omega (arith, long))
+
 -- ---- one block behind the other
 
 in_front : (bound n : ℕ) (xs ys : List (ℕ × Inode)) → n < bound → Rising bound (numbers ys) → inode_of (xs ++ ys) n ≡ inode_of xs n
@@ -205,7 +208,7 @@ module _ (read : Blocks) (whole : (b : ℕ) → length (read b) ≡ 4096) (inode
   group false k e es is none same = (
     record {
       absent = λ a. absurd (never a);
-      spelled = λ a. bytes_are inode 64 (64 * k) (read e) (omega (arith, whole e)) (all_fine (inodes_from 64 (64 * k) (read e)) (first_faults (flat_map bad_met (inodes_from 64 (64 * k) (read e))) (blank (64 * k) (inodes_from 64 (64 * k) (read e))) none)) agree;
+      spelled = λ a. take_whole (read e) (whole e) ∙ bytes_are inode 64 (64 * k) (read e) (omega (arith, whole e)) (all_fine (inodes_from 64 (64 * k) (read e)) (first_faults (flat_map bad_met (inodes_from 64 (64 * k) (read e))) (blank (64 * k) (inodes_from 64 (64 * k) (read e))) none)) agree;
       some = λ a. subst (λ (nodes : List (ℕ × Inode)). 1 ≤ length nodes) (sym (nodes_are inode 64 (64 * k) (read e) agree)) (some_used (inodes_from 64 (64 * k) (read e)) used);
     },
     λ n le. same n (omega (arith, le)) ∙ behind (64 * k + 64) n (nodes_of (inodes_from 64 (64 * k) (read e))) (nodes_of (blocks_inodes read (64 * k + 64) es)) (omega (arith, le)) (inodes_under 64 (64 * k) (read e)),
