@@ -1,6 +1,7 @@
 -- Planned nodes by their numbers.
-use Rattle.std.specs.Prelude.{◌≤◌, ◌<◌, ℕ, ◌+◌, ◌==◌, if◌then◌else◌, List, [], ◌∷◌, Option, Some, None}
+use Rattle.std.specs.Prelude.{◌≡◌, ◌≤◌, ◌<◌, ℕ, ◌+◌, ◌==◌, if◌then◌else◌, List, [], ◌∷◌, All, Option, Some, None}
 use Rattle.block_format.specs.declared.inode.Inode.{Inode}
+use Rattle.inode_file.specs.Inodes.{inode_of}
 use Rattle.point_plan.specs.declared.planned_node.PlannedNode.{PlannedNode}
 
 -- their numbers rise, from one on that is at least this, and are those of nodes
@@ -17,6 +18,15 @@ planned_of (p ∷ ps) n = if p.number == n then Some p else planned_of ps n
 abbrev pub inode_or : Option PlannedNode → Inode → Inode
 inode_or None before = before
 inode_or (Some p) before = p.is
+
+-- the inode that a planned number had, and another one's
+abbrev pub was_or : Option PlannedNode → Inode → Inode
+was_or None inode = inode
+was_or (Some p) inode = p.was
+
+-- Each planned node had the inode that is told of it.
+abbrev pub HadInodes : List Inode → List PlannedNode → Type 0
+HadInodes inodes nodes = All (λ (p : PlannedNode). inode_of inodes p.number ≡ p.was) nodes
 
 -- the pointers that come to a number's blocks, none where nothing is planned
 abbrev pub added_in : Option PlannedNode → List ℕ

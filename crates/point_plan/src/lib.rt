@@ -4,6 +4,7 @@
 mod counting;
 mod plan;
 mod planned_node;
+mod renewing;
 mod state;
 
 pub use plan::Plan;
