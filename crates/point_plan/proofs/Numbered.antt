@@ -31,24 +31,24 @@ pub step_new : (least : ℕ) (p : PlannedNode) (rest : List PlannedNode) (x y : 
     → (n : ℕ) → inode_or (planned_of rest n) (x n) ≡ inode_or (planned_of (p ∷ rest) n) (y n)
 step_new least p rest x y ascend is others n = ⊎_elim
     (λ here.
-      let same : (p.number == n) ≡ true = grind (arith, nat_tests) in
-      let gone = planned_none (p.number + 1) rest n ascend.2 (omega (arith, here)) in
-      ap (λ (o : Option PlannedNode). inode_or o (x n)) gone ∙ ap x here ∙ is ∙ sym (ap (λ (t : Bool). inode_or (cond t (Some p) (planned_of rest n)) (y n)) same))
+    let same : (p.number == n) ≡ true = grind (arith, nat_tests) in
+    let gone = planned_none (p.number + 1) rest n ascend.2 (omega (arith, here)) in
+    ap (λ (o : Option PlannedNode). inode_or o (x n)) gone ∙ ap x here ∙ is ∙ sym (ap (λ (t : Bool). inode_or (cond t (Some p) (planned_of rest n)) (y n)) same))
     (λ other.
-      let apart : (p.number == n) ≡ false = grind (arith, nat_tests) in
-      ap (inode_or (planned_of rest n)) (others n other) ∙ sym (ap (λ (t : Bool). inode_or (cond t (Some p) (planned_of rest n)) (y n)) apart))
+    let apart : (p.number == n) ≡ false = grind (arith, nat_tests) in
+    ap (inode_or (planned_of rest n)) (others n other) ∙ sym (ap (λ (t : Bool). inode_or (cond t (Some p) (planned_of rest n)) (y n)) apart))
     (cases_eq n p.number)
 
 pub step_old : (least : ℕ) (p : PlannedNode) (rest : List PlannedNode) (x y : ℕ → Inode) → Ascend least (p ∷ rest) → x p.number ≡ p.was → ((m : ℕ) → m ≢ p.number → x m ≡ y m)
     → (n : ℕ) → was_or (planned_of rest n) (x n) ≡ was_or (planned_of (p ∷ rest) n) (y n)
 step_old least p rest x y ascend is others n = ⊎_elim
     (λ here.
-      let same : (p.number == n) ≡ true = grind (arith, nat_tests) in
-      let gone = planned_none (p.number + 1) rest n ascend.2 (omega (arith, here)) in
-      ap (λ (o : Option PlannedNode). was_or o (x n)) gone ∙ ap x here ∙ is ∙ sym (ap (λ (t : Bool). was_or (cond t (Some p) (planned_of rest n)) (y n)) same))
+    let same : (p.number == n) ≡ true = grind (arith, nat_tests) in
+    let gone = planned_none (p.number + 1) rest n ascend.2 (omega (arith, here)) in
+    ap (λ (o : Option PlannedNode). was_or o (x n)) gone ∙ ap x here ∙ is ∙ sym (ap (λ (t : Bool). was_or (cond t (Some p) (planned_of rest n)) (y n)) same))
     (λ other.
-      let apart : (p.number == n) ≡ false = grind (arith, nat_tests) in
-      ap (was_or (planned_of rest n)) (others n other) ∙ sym (ap (λ (t : Bool). was_or (cond t (Some p) (planned_of rest n)) (y n)) apart))
+    let apart : (p.number == n) ≡ false = grind (arith, nat_tests) in
+    ap (was_or (planned_of rest n)) (others n other) ∙ sym (ap (λ (t : Bool). was_or (cond t (Some p) (planned_of rest n)) (y n)) apart))
     (cases_eq n p.number)
 
 -- the one at a place stands in front of those behind it
