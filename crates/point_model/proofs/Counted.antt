@@ -17,7 +17,7 @@ use Rattle.image_model.specs.Plan.{inode_pointers}
 use Rattle.image_model.specs.Planned.{node_trees, used_from}
 use Rattle.image_model.specs.Seen.{seen}
 use Rattle.image_model.specs.Slots.{inode_of}
-use Rattle.image_model.specs.Stands.{layout_in}
+use Rattle.image_model.specs.Stands.{Stands, layout_in}
 use Rattle.image_model.specs.Walk.{is_used, nodes_at}
 use Rattle.image_model.proofs.Area.{no_faults as none_found, points-cons}
 use Rattle.image_model.proofs.NodePlaces.{numbers, AllUsed, nodes_used, numbers_distinct, used_among}
@@ -26,12 +26,12 @@ use Rattle.image_model.proofs.PlanLaws.{nodes_limits}
 use Rattle.image_model.proofs.WalkSpelled.{times_append, walk_spelled}
 use Rattle.place_words.specs.Different.{times, span, total, is_among, Distinct}
 use Rattle.point_model.specs.Holding.{inode_before}
-use Rattle.point_model.specs.Laws.{MayTake, IsPlannedFor}
+use Rattle.point_model.specs.Laws.{CountsArePointers, MayTake, IsPlannedFor}
 use Rattle.point_model.specs.NodePlan.{node_pointers}
 use Rattle.point_model.specs.PointPlan.{of_all}
 use Rattle.point_model.proofs.Spelled.{spelled, unused_is}
 use Rattle.tree_model.specs.declared.report.Report.{Report}
-use Rattle.volume_model.specs.Machine.{Machine, Rules}
+use Rattle.volume_model.specs.Machine.{Machine, Rules, Stored, stored}
 
 -- ---- pointers of what is met, as a list
 
@@ -81,11 +81,11 @@ nodes_counted image inode b n (suc m) = by (inode n) (node_counted image b n (in
 
 -- ---- those of nodes in a list, number by number
 
-same_totals : (g h : ℕ → ℕ) (n m : ℕ) → ((k : ℕ) → n ≤ k → g k ≡ h k) → total g (span n m) ≡ total h (span n m)
+pub same_totals : (g h : ℕ → ℕ) (n m : ℕ) → ((k : ℕ) → n ≤ k → g k ≡ h k) → total g (span n m) ≡ total h (span n m)
 same_totals g h n zero same = refl
 same_totals g h n (suc m) same = λ i. same n (omega arith) i + same_totals g h (n + 1) m (λ k le. same k (omega (arith, le))) i
 
-no_total : (n m : ℕ) → total (λ k. 0) (span n m) ≡ 0
+pub no_total : (n m : ℕ) → total (λ k. 0) (span n m) ≡ 0
 no_total n zero = refl
 no_total n (suc m) = omega (arith, no_total (n + 1) m)
 
@@ -137,30 +137,34 @@ totals_balance : (f g h k : ℕ → ℕ) → ((n : ℕ) → f n + g n ≡ h n + 
 totals_balance f g h k each [] = refl
 totals_balance f g h k each (n ∷ ns) = omega (arith, each n, totals_balance f g h k each ns)
 
-of_numbers : (b : ℕ) (f : ℕ → List ℕ) (ns : List ℕ) → times b (flat_map f ns) ≡ total (λ n. times b (f n)) ns
+pub of_numbers : (b : ℕ) (f : ℕ → List ℕ) (ns : List ℕ) → times b (flat_map f ns) ≡ total (λ n. times b (f n)) ns
 of_numbers b f [] = refl
 of_numbers b f (n ∷ ns) = ap (times b) (flat_map-cons f n ns) ∙ times_append b (f n) (flat_map f ns) ∙ ap (λ (k : ℕ). times b (f n) + k) (of_numbers b f ns)
 
 -- of so many numbers
-all_balance : (m b : ℕ) (old_top new_top added dropped : List ℕ) (old_of new_of added_of dropped_of : ℕ → List ℕ) → times b old_top + times b added ≡ times b new_top + times b dropped
+pub all_balance : (m b : ℕ) (old_top new_top added dropped : List ℕ) (old_of new_of added_of dropped_of : ℕ → List ℕ) → times b old_top + times b added ≡ times b new_top + times b dropped
     → ((n : ℕ) → times b (old_of n) + times b (added_of n) ≡ times b (new_of n) + times b (dropped_of n))
     → (times b old_top + total (λ k. times b (old_of k)) (span 0 m)) + times b (added ++ flat_map added_of (span 0 m)) ≡ (times b new_top + total (λ k. times b (new_of k)) (span 0 m)) + times b (dropped ++ flat_map dropped_of (span 0 m))
 all_balance m b old_top new_top added dropped old_of new_of added_of dropped_of tops each =
     let sums = totals_balance (λ k. times b (old_of k)) (λ k. times b (added_of k)) (λ k. times b (new_of k)) (λ k. times b (dropped_of k)) each (span 0 m) in
     omega (arith, tops, sums, times_append b added (flat_map added_of (span 0 m)), times_append b dropped (flat_map dropped_of (span 0 m)), of_numbers b added_of (span 0 m), of_numbers b dropped_of (span 0 m))
 
-module _ (r : Rules) (old new : List Block) (o : Overlay) (m : Machine) (report : Report) (may : MayTake r old o m report) (plan : IsPlannedFor r old new o m report) where
-  pub old_counted : (b : ℕ) → pointers_to b (seen old).met ≡ times b (inode_pointers old) + total (λ k. times b (node_pointers old (inode_before old k))) (span 0 65536)
-  unfolding seen
-  old_counted b =
-      let read = blocks_in old in
-      let at = (root_of_image old).inode_index in
-      let met = walk_good read at (none_found (layout_in old) (seen old).met (seen old).met may.stands.sound.pointers) in
-      let nodes = nodes_at read at in
-      let limits : (n : ℕ) → is_among (numbers nodes) n ≡ true → n < 65536 = λ n among. omega (arith, (nodes_limits read at met.shapes n among).1) in
-      let sum = listed old b 65536 nodes (numbers_distinct read at) (nodes_used _) limits in
-      ap (pointers_to b) met.is ∙ both_counted b (map index (inode_pointers old)) (flat_map (node_trees read) nodes) ∙ (λ i. indexes_counted b (inode_pointers old) i + sum i)
+-- the pointers of an image that stands for something, number by number
+pub old_counted : (old : List Block) (s : Stored) → Stands old s → (b : ℕ) → pointers_to b (seen old).met ≡ times b (inode_pointers old) + total (λ k. times b (node_pointers old (inode_before old k))) (span 0 65536)
+unfolding seen
+old_counted old s stands b =
+    let read = blocks_in old in
+    let at = (root_of_image old).inode_index in
+    let met = walk_good read at (none_found (layout_in old) (seen old).met (seen old).met stands.sound.pointers) in
+    let nodes = nodes_at read at in
+    let limits : (n : ℕ) → is_among (numbers nodes) n ≡ true → n < 65536 = λ n among. omega (arith, (nodes_limits read at met.shapes n among).1) in
+    let sum = listed old b 65536 nodes (numbers_distinct read at) (nodes_used _) limits in
+    ap (pointers_to b) met.is ∙ both_counted b (map index (inode_pointers old)) (flat_map (node_trees read) nodes) ∙ (λ i. indexes_counted b (inode_pointers old) i + sum i)
 
+pub counts_are_pointers : CountsArePointers
+counts_are_pointers image s stands b lt = stands.sound.counts b lt ∙ old_counted image s stands b
+
+module _ (r : Rules) (old new : List Block) (o : Overlay) (m : Machine) (report : Report) (may : MayTake r old o m report) (plan : IsPlannedFor r old new o m report) where
   new_counted : (b : ℕ) → pointers_to b (seen new).met ≡ times b (inode_pointers new) + total (λ k. times b (node_pointers new (plan.inode k))) (span 0 65536)
   unfolding seen
   new_counted b = ap (pointers_to b) (walk_spelled (blocks_in new) (root_of_image new).inode_index plan.inode (spelled r old new o m report may plan)) ∙ walk_counted new plan.inode b 65536
@@ -168,7 +172,7 @@ module _ (r : Rules) (old new : List Block) (o : Overlay) (m : Machine) (report 
   -- pointers are the old ones with what is added and without what is dropped
   pointers_move : (b : ℕ) → pointers_to b (seen old).met + times b (of_all plan.inodes_added plan.added) ≡ pointers_to b (seen new).met + times b (of_all plan.inodes_dropped plan.dropped)
   pointers_move b =
-      (λ i. old_counted b i + times b (of_all plan.inodes_added plan.added))
+      (λ i. old_counted old (stored m) may.stands b i + times b (of_all plan.inodes_added plan.added))
       ∙ all_balance 65536 b (inode_pointers old) (inode_pointers new) plan.inodes_added plan.inodes_dropped (λ k. node_pointers old (inode_before old k)) (λ k. node_pointers new (plan.inode k)) plan.added plan.dropped
       (plan.inodes.balance b) (λ n. (plan.nodes n).pointers.balance b)
       ∙ (λ i. sym (new_counted b) i + times b (of_all plan.inodes_dropped plan.dropped))

@@ -26,7 +26,7 @@ use Rattle.point_model.proofs.FileBytes.{in_area, area_counted}
 use Rattle.point_model.proofs.OldPages.{page_kept, pointer_there, one_of_total}
 use Rattle.point_model.proofs.Spelled.{lt_true, lt_false, none_above}
 use Rattle.tree_model.specs.declared.report.Report.{Report}
-use Rattle.volume_model.specs.Machine.{Machine, Rules}
+use Rattle.volume_model.specs.Machine.{Machine, Rules, stored}
 
 -- a block to which a pointer leads is live
 pointed_live : (old : List Block) → IsSound (layout_in old) (seen old) → (b : ℕ) → 1 ≤ pointers_to b (seen old).met → IsLive old b
@@ -64,7 +64,7 @@ module _ (r : Rules) (old new : List Block) (o : Overlay) (m : Machine) (report 
   block_live : (n place : ℕ) → n < 65536 → (block_of_place old (inode_before old n) place == 0) ≡ false → IsLive old (block_of_place old (inode_before old n) place)
   block_live n place lt some =
       pointed_live old may.stands.sound (block_of_place old (inode_before old n) place)
-      (enough _ _ _ _ (old_counted r old new o m report may plan (block_of_place old (inode_before old n) place))
+      (enough _ _ _ _ (old_counted old (stored m) may.stands (block_of_place old (inode_before old n) place))
       (one_of_total (λ k. times (block_of_place old (inode_before old n) place) (node_pointers old (inode_before old k))) 0 65536 n (omega arith) (omega (arith, lt)))
       (pointer_there old (inode_before old n) place some))
     where

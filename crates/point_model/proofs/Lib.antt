@@ -1,6 +1,6 @@
 mod Numbers
 mod Spelled
-mod Counted
+pub mod Counted
 mod Placed
 mod Places
 mod FilePlaces

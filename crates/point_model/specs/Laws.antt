@@ -1,12 +1,17 @@
 -- Laws of planned points.
-use Rattle.std.specs.Prelude.{◌≡◌, ℕ, false, List, length, Some}
+use Rattle.std.specs.Prelude.{◌≡◌, ◌<◌, ◌+◌, ◌*◌, ℕ, false, List, get_or, length, Some}
 use Rattle.std.specs.FinMap.{find}
+use Rattle.vol_numbers.specs.Layout.{count_blocks}
 use Rattle.vol_numbers.specs.declared.block.Block.{Block}
 use Rattle.block_tree.specs.Tree.{blocks_in}
 use Rattle.dirty_store.specs.Overlay.{Overlay}
+use Rattle.image_model.specs.Plan.{inode_pointers}
 use Rattle.image_model.specs.Point.{HasPoint}
-use Rattle.image_model.specs.Stands.{Stands}
-use Rattle.point_model.specs.Holding.{HoldsMachine}
+use Rattle.image_model.specs.Seen.{seen}
+use Rattle.image_model.specs.Stands.{Stands, layout_in}
+use Rattle.place_words.specs.Different.{span, times, total}
+use Rattle.point_model.specs.Holding.{HoldsMachine, inode_before}
+use Rattle.point_model.specs.NodePlan.{node_pointers}
 use Rattle.point_model.specs.OldPages.{DirectoriesStand}
 use Rattle.point_model.specs.PointPlan.{PointIsPlanned}
 use Rattle.state_laws.specs.States.{IsCoherent}
@@ -50,3 +55,8 @@ BlocksHoldBytes = (image : List Block) (s : Stored) → Stands image s → (spot
 -- The pages of each directory are there, and spell its slots.
 abbrev pub PagesAreSpelled : Type 0
 PagesAreSpelled = (image : List Block) (s : Stored) → Stands image s → DirectoriesStand image
+
+-- The kept count of a block is the number of pointers to it: those of the root and the inode index, and number by number those of each node.
+abbrev pub CountsArePointers : Type 0
+CountsArePointers = (image : List Block) (s : Stored) → Stands image s → (b : ℕ) → b < 1024 * count_blocks (layout_in image)
+    → get_or (seen image).kept b 0 ≡ times b (inode_pointers image) + total (λ n. times b (node_pointers image (inode_before image n))) (span 0 65536)

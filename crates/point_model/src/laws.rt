@@ -1,6 +1,6 @@
 //! Laws of planned points.
 ghost use Rattle.point_model.specs.FreshPoint.{FreshPointIsPlanned};
-ghost use Rattle.point_model.specs.Laws.{BlocksHoldBytes, PagesAreSpelled, PlannedHasPoint, PlannedStands};
+ghost use Rattle.point_model.specs.Laws.{BlocksHoldBytes, CountsArePointers, PagesAreSpelled, PlannedHasPoint, PlannedStands};
 ghost use Rattle.point_model.specs.NodeChanges.{BuiltIsOfChange, CleanNodesAre};
 ghost use Rattle.point_model.specs.RootPlan.{SwitchedRootIsPlanned};
 ghost use Rattle.point_model.specs.Staging.{AtRest, StagingHolds, TableHoldsTree};
@@ -58,4 +58,9 @@ pub fn at_rest()
 /// Where nothing is staged, each number has the node of its inode, with the slots that are seen up to its width.
 pub fn clean_nodes_are()
     ensures { CleanNodesAre }
+{}
+
+/// In an image that stands for something, the count of each block is the number of pointers to it.
+pub fn counts_are_pointers()
+    ensures { CountsArePointers }
 {}

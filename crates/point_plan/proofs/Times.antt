@@ -1,9 +1,12 @@
 -- How often a number is among the first of a list.
-use Rattle.std.proofs.Common.{◌≡◌, ◌≢◌, ◌<◌, ℕ, ◌+◌, Bool, true, false, cond, List, [], ◌∷◌, ◌++◌, length, take, get_or, ap, ◌∙◌, arith}
+use Rattle.std.proofs.Common.{◌≡◌, ◌≢◌, ◌<◌, ◌≤◌, ℕ, zero, suc, ◌+◌, Bool, true, false, cond, List, [], ◌∷◌, ◌++◌, length, take, drop, get_or, ap, ◌∙◌, arith}
 use Rattle.std.specs.Prelude.{nat_eq}
 use Rattle.std.proofs.lemmas.Bool.Decides.{nat_tests}
 use Rattle.std.proofs.lemmas.List.{take_more}
+use Rattle.std.proofs.lemmas.List.Concat.{flat_map-cons}
 use Rattle.place_words.specs.Different.{times}
+use Rattle.point_plan.specs.Nodes.{all_added}
+use Rattle.point_plan.specs.declared.planned_node.PlannedNode.{PlannedNode}
 
 pub times_append : (b : ℕ) (xs ys : List ℕ) → times b (xs ++ ys) ≡ times b xs + times b ys
 times_append b [] ys = omega arith
@@ -25,3 +28,11 @@ times_other b xs i lt other =
     let none = (times_one b (get_or xs i 0)).1 other in
     let both = ap (times b) (take_more xs i 0 lt) ∙ times_append b (take i xs) (get_or xs i 0 ∷ []) in
     omega (arith, both, none)
+
+-- those of the nodes behind some are no more than those of all
+pub added_less : (b i : ℕ) (nodes : List PlannedNode) → times b (all_added (drop i nodes)) ≤ times b (all_added nodes)
+added_less b zero nodes = omega arith
+added_less b (suc i) [] = omega arith
+added_less b (suc i) (p ∷ ps) =
+    let front = ap (times b) (flat_map-cons (λ (q : PlannedNode). q.added) p ps) ∙ times_append b p.added (all_added ps) in
+    omega (arith, added_less b i ps, front)

@@ -1,7 +1,10 @@
 -- Planned nodes by their numbers.
-use Rattle.std.specs.Prelude.{◌≡◌, ◌≤◌, ◌<◌, ℕ, ◌+◌, ◌==◌, if◌then◌else◌, List, [], ◌∷◌, All, Option, Some, None}
+use Rattle.std.specs.Prelude.{◌≡◌, ◌≤◌, ◌<◌, ℕ, ◌+◌, ◌^◌, ◌==◌, if◌then◌else◌, List, [], ◌∷◌, ◌++◌, All, Option, Some, None}
+use Rattle.std.specs.List.{flat_map}
 use Rattle.block_format.specs.declared.inode.Inode.{Inode}
+use Rattle.block_tree.specs.declared.plan.Rewritten.{Rewritten}
 use Rattle.inode_file.specs.Inodes.{inode_of}
+use Rattle.place_words.specs.Different.{times}
 use Rattle.point_plan.specs.declared.planned_node.PlannedNode.{PlannedNode}
 
 -- their numbers rise, from one on that is at least this, and are those of nodes
@@ -37,3 +40,16 @@ added_in (Some p) = p.added
 abbrev pub dropped_in : Option PlannedNode → List ℕ
 dropped_in None = []
 dropped_in (Some p) = p.dropped
+
+-- ---- of all of them
+
+abbrev pub all_added : List PlannedNode → List ℕ
+all_added nodes = flat_map (λ (p : PlannedNode). p.added) nodes
+
+abbrev pub all_dropped : List PlannedNode → List ℕ
+all_dropped nodes = flat_map (λ (p : PlannedNode). p.dropped) nodes
+
+-- A block with this count has room for the pointers that come, and no more of them go than there are then.
+pub record IsCountable (nodes : List PlannedNode) (inodes : Rewritten) (count b : ℕ) : Type 0 where
+  pub fits : 1 ≤ times b (inodes.added ++ all_added nodes) → count + times b (inodes.added ++ all_added nodes) < 2 ^ 32
+  pub some : times b (inodes.dropped ++ all_dropped nodes) ≤ count + times b (inodes.added ++ all_added nodes)
