@@ -1,4 +1,4 @@
-mod Numbers
+pub mod Numbers
 mod Spelled
 pub mod Counted
 mod Placed

@@ -85,6 +85,16 @@ module _ (node : ℕ → Option HeldNode) (tree : Tree) (is_tree : IsTree tree) 
   pub unused_above : (n : ℕ) → 65536 ≤ n → is_used (inode n) ≡ false
   unused_above n le = unused_or (is_used (inode n)) n refl le
 
+  -- no node has the number 0
+  pub unused_zero : is_used (inode 0) ≡ false
+  unused_zero = by (is_used (inode 0)) refl
+    where
+      by : (t : Bool) → is_used (inode 0) ≡ t → is_used (inode 0) ≡ false
+      by false is = is
+      by true is =
+          let has = node_of_number 0 is in
+          absurd (omega (arith, has.number, (is_tree.shape.numbered has.path (has.at.number, is_directory_node has.at) (ap shape_of has.stands)).0))
+
   pub root_directory : is_directory (inode 1) ≡ true
   root_directory = by (node_at tree []) refl is_tree.shape.root
     where

@@ -1,3 +1,5 @@
 pub mod Times
 pub mod Numbered
 pub mod InodesPlanned
+pub mod CountsPlanned
+pub mod Put

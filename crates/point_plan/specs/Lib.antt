@@ -1,3 +1,4 @@
 pub mod State
 pub mod Nodes
 pub mod Carries
+pub mod Made

@@ -12,7 +12,7 @@ use Rattle.held_list.specs.Held.{slots_at}
 use Rattle.image_model.specs.Seen.{seen}
 use Rattle.image_model.specs.Slots.{slots_of as slots_seen}
 use Rattle.image_model.specs.Stands.{Stands}
-use Rattle.inode_file.specs.Inodes.{Stands as InodesStand}
+use Rattle.inode_file.specs.Inodes.{IsTable, Stands as InodesStand, inode_of}
 use Rattle.inode_file.specs.Loading.{IsWithin}
 use Rattle.point_model.specs.Holding.{HoldsMachine, inode_before}
 use Rattle.point_plan.specs.declared.state.PointState.{PointState}
@@ -35,6 +35,7 @@ pub record IsOfSize (blocks : ℕ) (s : PointState) : Type 0 where
   pub root : s.current.body.geometry ≡ s.geometry
   pub slot : s.current.slot < 2
   pub grammar : HasGeometry (root_of s.current.body)
+  pub table : IsTable s.inodes
   pub index : s.inodes.index ≡ s.current.body.inode_index
   pub within : IsWithin (layout_of s.geometry) s.inodes
   pub settled : s.inodes.inodes ≡ s.inodes.stored
@@ -51,4 +52,5 @@ pub record HoldsPoint (r : Rules) (m : Machine) (image : List Block) (s : PointS
   pub root : root_of s.current.body ≡ root_of_image image
   pub counts : s.counts.counts ≡ (seen image).kept
   pub inodes : InodesStand (blocks_in image) s.inodes
+  pub nodes : (n : ℕ) → inode_of s.inodes.inodes n ≡ inode_before image n
   pub directories : (n : ℕ) → slots_at s.directories n ≡ slots_before image n
