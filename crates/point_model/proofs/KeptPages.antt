@@ -29,7 +29,7 @@ use Rattle.tree_model.specs.declared.report.Report.{Report}
 use Rattle.volume_model.specs.Machine.{Machine, Rules, stored}
 
 -- a block to which a pointer leads is live
-pointed_live : (old : List Block) → IsSound (layout_in old) (seen old) → (b : ℕ) → 1 ≤ pointers_to b (seen old).met → IsLive old b
+pub pointed_live : (old : List Block) → IsSound (layout_in old) (seen old) → (b : ℕ) → 1 ≤ pointers_to b (seen old).met → IsLive old b
 pointed_live old sound b some = counted b area (positive _ _ (sound.counts b (area_counted (layout_in old) b area)) some)
   where
     positive : (kept pointers : ℕ) → kept ≡ pointers → 1 ≤ pointers → 0 < kept

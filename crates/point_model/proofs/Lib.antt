@@ -1,13 +1,13 @@
 pub mod Numbers
 mod Spelled
 pub mod Counted
-mod Placed
+pub mod Placed
 mod Places
 mod FilePlaces
 mod FileBytes
 mod Nodes
 mod OldPages
-mod KeptPages
+pub mod KeptPages
 mod DirectoriesStand
 mod Assembled
 mod Staged

@@ -3,3 +3,5 @@ pub mod Numbered
 pub mod InodesPlanned
 pub mod CountsPlanned
 pub mod Put
+pub mod Stays
+pub mod Written
