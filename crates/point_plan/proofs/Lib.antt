@@ -5,3 +5,4 @@ pub mod CountsPlanned
 pub mod Put
 pub mod Stays
 pub mod Written
+pub mod Whole

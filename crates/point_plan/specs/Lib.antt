@@ -2,3 +2,4 @@ pub mod State
 pub mod Nodes
 pub mod Carries
 pub mod Made
+pub mod Laws

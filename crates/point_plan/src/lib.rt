@@ -2,11 +2,13 @@
 #![tactic(auto)]
 
 mod counting;
+mod laws;
 mod plan;
 mod planned_node;
 mod renewing;
 mod state;
 
+pub use laws::made_is_planned;
 pub use plan::Plan;
 pub use planned_node::{PlannedNode, PlannedNodeList};
 pub use state::PointState;
