@@ -1,2 +1,4 @@
 pub mod BlockLaws
+pub mod PartLaws
 pub mod Places
+pub mod ReadData

@@ -1,2 +1,4 @@
 pub mod Stored
 pub mod Holding
+pub mod Part
+pub mod Laws
