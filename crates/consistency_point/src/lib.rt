@@ -2,6 +2,7 @@
 #![tactic(auto)]
 
 mod fault;
+mod writing;
 
 pub use fault::PointFault;
 pub use point_plan::PointState;
