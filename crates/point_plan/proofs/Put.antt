@@ -117,7 +117,7 @@ module _ (old new : List Block) (o : Overlay) (m : Machine) (placed : Places) (f
       enough : (b : ℕ) → b < 1024 * count_blocks (layout_in old) → times b (w.dropped ++ all_dropped plan.nodes) ≤ slice_index kept b + times b (w.added ++ all_added plan.nodes)
       enough b lt =
           let sums = all_balance 65536 b (inode_pointers old) (inode_pointers new) w.added w.dropped (λ k. node_pointers old (inode_before old k)) (λ k. node_pointers new (inode k)) come go
-            (inodes_are_planned.balance b) (λ n. (node_planned n).pointers.balance b) in
+          (inodes_are_planned.balance b) (λ n. (node_planned n).pointers.balance b) in
           let counted = counts_are_pointers old (stored m) stands b lt in
           let same : slice_index kept b ≡ get_or (seen old).kept b 0 = ap (λ (ks : List ℕ). slice_index ks b) kept_is in
           no_more _ _ _ _ _ _ _ (same ∙ counted) sums (come_listed b) (go_listed b)

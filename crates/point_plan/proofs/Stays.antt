@@ -48,4 +48,4 @@ table_stands old new s was stands live whole stood index =
     let same : inode_pointers old ≡ table_pointers was = pointers_are old was whole stood index in
     table_stays (blocks_in old) (blocks_in new) was stood
     (all_among (λ b. blocks_in new b ≡ blocks_in old b) (table_pointers was)
-      (λ b among. bytes_same old new b (live b (inode_live old s stands b (subst (λ (ps : List ℕ). is_among ps b ≡ true) (sym same) among)))))
+    (λ b among. bytes_same old new b (live b (inode_live old s stands b (subst (λ (ps : List ℕ). is_among ps b ≡ true) (sym same) among)))))

@@ -16,7 +16,7 @@ loop-b-preserved c =
           (λ here.
           let more = times_here b c.args.added.now c.loop-b.b-index c.loop-b-test.true here in
           let room = fits (omega (arith, more)) in
-            let before = inv.counted b lt (λ some. omega (arith, more, room)) in
+          let before = inv.counted b lt (λ some. omega (arith, more, room)) in
           let same : slice_index was b ≡ slice_index was at = ap (λ (k : ℕ). slice_index was k) here in
           let also : slice_index now b ≡ slice_index now at = ap (λ (k : ℕ). slice_index now k) here in
           let counted = one.counted (omega (arith, inv.long, lt, here)) (omega (arith, same, before, more, room)) in

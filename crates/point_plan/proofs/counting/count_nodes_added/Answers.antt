@@ -19,7 +19,7 @@ loop-node-preserved c =
     record {
       counted = λ b lt fits.
           let front : times b (all_added (drop i nodes)) ≡ times b p.added + times b (all_added rest) =
-            ap (λ (ps : List PlannedNode). times b (all_added ps)) (drop_at nodes i p c.loop-node-test.true c.node-item.is) ∙ ap (times b) (flat_map-cons (λ (q : PlannedNode). q.added) p rest) ∙ times_append b p.added (all_added rest) in
+          ap (λ (ps : List PlannedNode). times b (all_added ps)) (drop_at nodes i p c.loop-node-test.true c.node-item.is) ∙ ap (times b) (flat_map-cons (λ (q : PlannedNode). q.added) p rest) ∙ times_append b p.added (all_added rest) in
           let same : times b c.as_slice.result.now ≡ times b p.added = ap (times b) c.as_slice.ensures in
           let before = inv.counted b lt fits in
           let counted = one.counted b (omega (arith, inv.long, lt)) (λ some. let room = fits (omega (arith, front, some, same, added_less b i nodes)) in omega (arith, front, before, room, same)) in

@@ -19,7 +19,7 @@ loop-node-preserved c =
     record {
       counted = λ b lt some.
           let front : times b (all_dropped (drop i nodes)) ≡ times b p.dropped + times b (all_dropped rest) =
-            ap (λ (ps : List PlannedNode). times b (all_dropped ps)) (drop_at nodes i p c.loop-node-test.true c.node-item.is) ∙ ap (times b) (flat_map-cons (λ (q : PlannedNode). q.dropped) p rest) ∙ times_append b p.dropped (all_dropped rest) in
+          ap (λ (ps : List PlannedNode). times b (all_dropped ps)) (drop_at nodes i p c.loop-node-test.true c.node-item.is) ∙ ap (times b) (flat_map-cons (λ (q : PlannedNode). q.dropped) p rest) ∙ times_append b p.dropped (all_dropped rest) in
           let same : times b c.as_slice.result.now ≡ times b p.dropped = ap (times b) c.as_slice.ensures in
           let before = inv.counted b lt some in
           let counted = one.counted b (omega (arith, inv.long, lt)) (omega (arith, front, before, some, same)) in
