@@ -5,3 +5,7 @@ pub mod RisingLaws
 pub mod SpelledLaws
 pub mod DirectoryLaws
 pub mod PlannedLaws
+pub mod SameTrees
+pub mod LiveTrees
+pub mod UnstagedLaws
+pub mod HoldsLaws

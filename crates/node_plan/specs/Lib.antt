@@ -1,3 +1,4 @@
 pub mod Trees
 pub mod Pages
 pub mod Directories
+pub mod Laws

@@ -4,6 +4,7 @@
 mod directory;
 mod emptying;
 mod file;
+mod laws;
 mod pages;
 mod plan;
 mod root;
@@ -12,4 +13,5 @@ mod spelling;
 pub use directory::plan_directory;
 pub use emptying::plan_removed;
 pub use file::plan_file;
+pub use laws::{directory_holds, unstaged_is_planned};
 pub use plan::NodePlan;

@@ -25,6 +25,10 @@ enum Act {
     Slot(u32, u32, Option<u32>),
     /// A directory is so wide.
     Width(u32, u32),
+    /// These numbers have something staged.
+    Numbers(&'static [u32]),
+    /// These pages of a directory have a staged slot.
+    Pages(u32, &'static [u32]),
 }
 
 const NOTHING: Row = Row {
@@ -104,7 +108,17 @@ const REMOVE_DIRECTORY: Row = Row {
     slots: &[(1, 3, 0)],
 };
 
+/// Slots of directory 7 on the pages 2, 2, 0 and 1, by an effect on file 5.
+const SPREAD: Row = Row {
+    number: 5,
+    size: Some(16_384),
+    cut_to: None,
+    touched: &[(3, 53), (2, 52)],
+    slots: &[(7, 40, 5), (7, 33, 6), (7, 15, 9), (7, 16, 8)],
+};
+
 const FILES: &[Act] = &[
+    Act::Numbers(&[]),
     Act::Runs(2, &[]),
     Act::Dirty(2, 0, None),
     Act::Size(2, None),
@@ -117,6 +131,10 @@ const FILES: &[Act] = &[
     Act::Runs(2, &[(0, 3), (5, 1)]),
     Act::Runs(3, &[(6, 2)]),
     Act::CutTo(3, 7),
+    // Directory 1 has a slot of file 2.
+    Act::Numbers(&[1, 2, 3]),
+    Act::Pages(1, &[0]),
+    Act::Pages(2, &[]),
     Act::Try(REWRITE),
     Act::Dirty(2, 1, Some(11)),
     Act::Dirty(2, 4, None),
@@ -169,6 +187,11 @@ const SLOTS: &[Act] = &[
     Act::Width(1, 4),
     Act::Stage(NOTHING),
     Act::Width(1, 4),
+    Act::Stage(SPREAD),
+    // The number 0 is that of an effect that does nothing, and 4 is a removed directory.
+    Act::Numbers(&[0, 1, 2, 4, 5, 7]),
+    Act::Pages(7, &[0, 1, 2]),
+    Act::Pages(4, &[]),
 ];
 
 fn stage(alloc: Global, store: &mut DirtyStore, row: &Row) -> Result<bool, AllocError> {
@@ -227,6 +250,21 @@ fn has_runs(
     Ok(are_runs(runs.as_slice(), want))
 }
 
+fn has_numbers(alloc: Global, store: &DirtyStore, want: &[u32]) -> Result<bool, AllocError> {
+    let numbers = store.numbers(alloc)?;
+    Ok(numbers.as_slice() == want)
+}
+
+fn has_pages(
+    alloc: Global,
+    store: &DirtyStore,
+    directory: u32,
+    want: &[u32],
+) -> Result<bool, AllocError> {
+    let pages = store.pages(alloc, directory)?;
+    Ok(pages.as_slice() == want)
+}
+
 fn is_done(alloc: Global, store: &mut DirtyStore, act: &Act) -> Result<bool, AllocError> {
     match *act {
         Act::Stage(row) => stage(alloc, store, &row),
@@ -237,6 +275,8 @@ fn is_done(alloc: Global, store: &mut DirtyStore, act: &Act) -> Result<bool, All
         Act::CutTo(number, blocks) => Ok(store.cut_to(number) == blocks),
         Act::Slot(directory, k, number) => Ok(number_in(store.slot(directory, k)) == number),
         Act::Width(directory, width) => Ok(store.width(directory) == width),
+        Act::Numbers(want) => has_numbers(alloc, store, want),
+        Act::Pages(directory, want) => has_pages(alloc, store, directory, want),
     }
 }
 
