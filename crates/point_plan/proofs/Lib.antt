@@ -6,3 +6,4 @@ pub mod Put
 pub mod Stays
 pub mod Written
 pub mod Whole
+pub mod FreeBlocks

@@ -3,3 +3,4 @@ pub mod Nodes
 pub mod Carries
 pub mod Made
 pub mod Laws
+pub mod Free
