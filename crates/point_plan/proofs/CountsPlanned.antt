@@ -1,25 +1,15 @@
 -- The counts that were moved by the pointers of changed nodes are those that a point plans.
-use Rattle.std.proofs.Common.{◌≡◌, ◌≢◌, ℕ, zero, suc, ◌+◌, ◌*◌, ◌^◌, ◌<◌, ◌≤◌, Bool, true, false, cond, List, [], ◌∷◌, ◌++◌, length, get_or, Option, Some, None, refl, sym, ap, subst, ◌∙◌, arith, ⊎_elim}
+use Rattle.std.proofs.Common.{◌≡◌, ℕ, zero, suc, ◌+◌, ◌≤◌, Bool, true, false, cond, List, [], ◌∷◌, Option, Some, None, refl, ap, subst, ◌∙◌, arith}
 use Rattle.std.specs.Prelude.{◌==◌}
 use Rattle.std.specs.List.{flat_map}
-use Rattle.std.proofs.lemmas.Bool.{cases_eq}
 use Rattle.std.proofs.lemmas.Bool.Decides.{nat_tests}
 use Rattle.std.proofs.lemmas.List.Concat.{flat_map-cons}
-use Rattle.vol_numbers.specs.Layout.{count_blocks}
-use Rattle.vol_numbers.specs.declared.block.Block.{Block}
-use Rattle.block_format.specs.declared.inode.Inode.{Inode}
-use Rattle.image_model.specs.Plan.{inode_pointers}
-use Rattle.image_model.specs.Stands.{Stands, layout_in}
 use Rattle.place_words.specs.Different.{span, times, total}
-use Rattle.point_model.specs.Holding.{inode_before}
-use Rattle.point_model.specs.NodePlan.{node_pointers}
-use Rattle.point_model.specs.PointPlan.{of_all}
-use Rattle.point_model.proofs.Counted.{all_balance, of_numbers, same_totals, counts_are_pointers}
+use Rattle.point_model.proofs.Counted.{of_numbers, same_totals}
 use Rattle.point_plan.specs.Nodes.{Ascend, planned_of}
 use Rattle.point_plan.specs.declared.planned_node.PlannedNode.{PlannedNode}
 use Rattle.point_plan.proofs.Numbered.{planned_none}
 use Rattle.point_plan.proofs.Times.{times_append}
-use Rattle.volume_model.specs.Machine.{Stored}
 
 -- ---- what of all numbers is what of the planned ones
 

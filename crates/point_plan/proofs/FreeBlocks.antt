@@ -1,15 +1,13 @@
 -- Blocks that are free by the counts in memory.
-use Rattle.std.proofs.Common.{◌≡◌, ℕ, zero, suc, ◌+◌, ◌-◌, ◌*◌, ◌<◌, ◌≤◌, Bool, true, false, not, cond, List, [], ◌∷◌, length, get_or, drop, map, take, refl, sym, ap, subst, ◌∙◌, arith}
-use Rattle.std.specs.Prelude.{◌==◌, ◌||◌, ◌&&◌, min, nat_eq, nat_le, nat_lt, if◌then◌else◌}
+use Rattle.std.proofs.Common.{◌≡◌, ℕ, zero, suc, ◌+◌, ◌-◌, ◌<◌, ◌≤◌, Bool, true, false, not, cond, List, [], ◌∷◌, length, get_or, drop, map, take, refl, sym, ap, subst, ◌∙◌, arith}
+use Rattle.std.specs.Prelude.{◌==◌, ◌||◌, ◌&&◌, nat_eq, nat_le, nat_lt, if◌then◌else◌}
 use Rattle.std.proofs.lemmas.Bool.Decides.{nat_tests}
 use Rattle.std.proofs.lemmas.List.{get_or-drop, get_or-take, length-drop, length-take}
 use Rattle.vol_numbers.specs.Geometry.{layout_of}
-use Rattle.vol_numbers.specs.Layout.{Layout, IsValid, area_start, count_blocks}
+use Rattle.vol_numbers.specs.Layout.{Layout, IsValid, area_start}
 use Rattle.vol_numbers.specs.declared.block.Block.{Block}
-use Rattle.block_format.specs.Root.{root_of}
 use Rattle.fresh_runs.specs.Laws.{AreUnused}
 use Rattle.image_model.specs.Findings.{is_in_area}
-use Rattle.image_model.specs.Live.{IsLive}
 use Rattle.image_model.proofs.LiveLaws.{not_live}
 use Rattle.block_tree.specs.Tree.{Blocks, blocks_in}
 use Rattle.image_model.specs.Met.{Met, index, page, content, past, empty, not_inode, stray, files, pointers_to}
@@ -21,8 +19,7 @@ use Rattle.point_model.proofs.KeptPages.{pointed_live}
 use Rattle.point_plan.specs.Free.{free_now, IsFree, UncountedAreUnused, FreeNowIsFree}
 use Rattle.point_plan.specs.State.{HoldsPoint, IsOfSize}
 use Rattle.point_plan.specs.declared.state.PointState.{PointState}
-use Rattle.root_switch.specs.Current.{root_of_image}
-use Rattle.run_allocator.specs.Runs.{Ascends, free_area, zeros_from}
+use Rattle.run_allocator.specs.Runs.{Ascends, zeros_from}
 use Rattle.volume_model.specs.Machine.{Machine, Rules, stored}
 use Rattle.volume_model.specs.Places.{is_block, blocks_of as blocks_in_places}
 use Rattle.volume_model.specs.Point.{is_unused}

@@ -1,5 +1,5 @@
 -- What the steps of planning give is the plan of a point, in each image that carries it.
-use Rattle.std.proofs.Common.{◌≡◌, ℕ, zero, suc, ◌+◌, ◌*◌, ◌^◌, ◌<◌, ◌≤◌, Bool, true, false, cond, List, [], ◌∷◌, ◌++◌, length, get_or, Option, Some, None, refl, sym, ap, subst, ◌∙◌, arith}
+use Rattle.std.proofs.Common.{◌≡◌, ℕ, ◌+◌, ◌*◌, ◌<◌, ◌≤◌, true, false, List, ◌++◌, length, get_or, Some, refl, sym, ap, subst, ◌∙◌, arith}
 use Rattle.std.specs.Prelude.{slice_index, option_map}
 use Rattle.std.specs.FinMap.{find}
 use Rattle.std.specs.List.{flat_map}
@@ -10,29 +10,27 @@ use Rattle.vol_numbers.specs.declared.runs.Page.{Page}
 use Rattle.block_format.specs.Root.{Root, root_of}
 use Rattle.block_format.specs.declared.inode.Inode.{Inode}
 use Rattle.block_tree.specs.Notes.{Stand}
-use Rattle.block_tree.specs.Tree.{Blocks, blocks_in}
+use Rattle.block_tree.specs.Tree.{blocks_in}
 use Rattle.block_tree.specs.declared.plan.Rewritten.{Rewritten}
 use Rattle.count_pairs.specs.Table.{AllStand}
 use Rattle.dirty_store.specs.Overlay.{Overlay}
-use Rattle.image_model.specs.Plan.{inode_pointers, taken_in}
+use Rattle.image_model.specs.Plan.{inode_pointers}
 use Rattle.image_model.specs.Seen.{seen}
 use Rattle.image_model.specs.Stands.{Stands, layout_in}
 use Rattle.image_model.specs.Walk.{is_used}
 use Rattle.inode_file.specs.Inodes.{InodeTable, IsTable, Stands as InodesStand, inode_of}
-use Rattle.inode_file.specs.Rewriting.{table_pointers}
 use Rattle.node_table.specs.Held.{info}
 use Rattle.place_words.specs.Different.{is_among, span, times}
 use Rattle.point_model.specs.Holding.{inode_before, node_now}
 use Rattle.point_model.specs.NodePlan.{node_pointers}
-use Rattle.point_model.specs.PointPlan.{CountsArePlanned, InodesArePlanned, LiveStays, NodeIsPlanned, PointIsPlanned, RootIsPlanned, of_all, told}
+use Rattle.point_model.specs.PointPlan.{CountsArePlanned, InodesArePlanned, NodeIsPlanned, PointIsPlanned, RootIsPlanned, of_all, told}
 use Rattle.point_model.proofs.Counted.{all_balance, counts_are_pointers}
 use Rattle.point_plan.specs.Carries.{Carries}
-use Rattle.point_plan.specs.Made.{AreCountsMoved, AreInodesPlanned, AreNodesPlanned, IsMade, IsRootPlanned, taken_by}
+use Rattle.point_plan.specs.Made.{IsMade, taken_by}
 use Rattle.point_plan.specs.Nodes.{added_in, all_added, all_dropped, dropped_in, inode_or, planned_of}
 use Rattle.point_plan.specs.declared.plan.Plan.{Plan}
-use Rattle.point_plan.specs.declared.planned_node.PlannedNode.{PlannedNode}
 use Rattle.point_plan.proofs.CountsPlanned.{listed}
-use Rattle.point_plan.proofs.InodesPlanned.{inodes_planned, pointers_are}
+use Rattle.point_plan.proofs.InodesPlanned.{inodes_planned}
 use Rattle.point_plan.proofs.Times.{times_append}
 use Rattle.root_switch.specs.Current.{root_of_image}
 use Rattle.volume_model.specs.Machine.{Machine, stored}

@@ -1,20 +1,18 @@
 -- The inode blocks of the last point are live, so they stay in each image that carries a plan.
-use Rattle.std.proofs.Common.{◌≡◌, ℕ, ◌+◌, ◌≤◌, Bool, true, false, List, [], ◌∷◌, refl, sym, ap, subst, ◌∙◌, arith}
+use Rattle.std.proofs.Common.{◌≡◌, ℕ, ◌+◌, ◌≤◌, Bool, true, false, List, [], ◌∷◌, refl, sym, ap, subst, arith}
 use Rattle.std.specs.Prelude.{◌||◌, nat_eq}
 use Rattle.std.specs.List.{AllByRecursion}
 use Rattle.std.proofs.lemmas.Bool.Decides.{nat_tests}
 use Rattle.vol_numbers.specs.declared.block.Block.{Block}
 use Rattle.block_tree.specs.Tree.{blocks_in}
 use Rattle.image_model.specs.Live.{IsLive}
-use Rattle.image_model.specs.Met.{pointers_to}
 use Rattle.image_model.specs.Plan.{inode_pointers}
-use Rattle.image_model.specs.Seen.{seen}
 use Rattle.image_model.specs.Stands.{Stands}
 use Rattle.image_model.proofs.Kept.{bytes_same}
 use Rattle.inode_file.specs.Inodes.{InodeTable, IsTable, Stands as InodesStand}
 use Rattle.inode_file.specs.Rewriting.{table_pointers}
 use Rattle.inode_file.proofs.SpellLaws.{table_stays}
-use Rattle.place_words.specs.Different.{is_among, times}
+use Rattle.place_words.specs.Different.{is_among}
 use Rattle.place_words.proofs.Counting.{among_times}
 use Rattle.point_model.specs.PointPlan.{LiveStays}
 use Rattle.point_model.proofs.Counted.{old_counted}

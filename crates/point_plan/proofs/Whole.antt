@@ -1,8 +1,8 @@
 -- All of a plan.
-use Rattle.std.proofs.Common.{◌≡◌, ℕ, ◌*◌, Bool, true, false, List, length, refl, sym, ap, subst, ◌∙◌}
+use Rattle.std.proofs.Common.{◌≡◌, ℕ, ◌*◌, false, List, length, sym, ap, ◌∙◌}
 use Rattle.vol_numbers.specs.Geometry.{layout_of}
 use Rattle.vol_numbers.specs.Layout.{Layout, count_blocks}
-use Rattle.block_format.specs.Root.{Root, root_of}
+use Rattle.block_format.specs.Root.{Root}
 use Rattle.image_model.specs.Stands.{layout_in}
 use Rattle.image_model.specs.Walk.{is_used}
 use Rattle.inode_file.specs.Inodes.{inode_of}

@@ -1,5 +1,5 @@
 -- Laws of plans.
-use Rattle.std.specs.Prelude.{◌≡◌, ℕ, List}
+use Rattle.std.specs.Prelude.{ℕ, List}
 use Rattle.vol_numbers.specs.declared.block.Block.{Block}
 use Rattle.block_tree.specs.declared.plan.Rewritten.{Rewritten}
 use Rattle.inode_file.specs.Inodes.{InodeTable}

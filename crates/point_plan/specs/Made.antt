@@ -1,7 +1,6 @@
 -- What the steps of planning give, before it is put together. These words are for private functions.
-use Rattle.std.specs.Prelude.{◌≡◌, ◌<◌, ◌≤◌, ℕ, ◌+◌, ◌*◌, ◌^◌, false, List, [], ◌++◌, All, length, get_or, slice_index, option_map, Option, Some, None}
+use Rattle.std.specs.Prelude.{◌≡◌, ◌<◌, ◌≤◌, ℕ, ◌+◌, ◌^◌, false, List, [], ◌++◌, All, length, slice_index, option_map, Option, Some, None}
 use Rattle.vol_numbers.specs.Geometry.{layout_of}
-use Rattle.vol_numbers.specs.Layout.{count_blocks}
 use Rattle.vol_numbers.specs.declared.block.Block.{Block}
 use Rattle.block_format.specs.Inode.{pointer_of}
 use Rattle.block_tree.specs.Notes.{Stand, page_blocks}
@@ -11,7 +10,6 @@ use Rattle.dirty_store.specs.Overlay.{Overlay}
 use Rattle.image_model.specs.Plan.{taken_in}
 use Rattle.image_model.specs.Point.{TakesFree}
 use Rattle.image_model.specs.Stands.{layout_in}
-use Rattle.image_model.specs.Walk.{is_used}
 use Rattle.inode_file.specs.Inodes.{InodeTable, IsTable, Stands, inode_of}
 use Rattle.inode_file.specs.Rewriting.{has_nodes, table_pointers}
 use Rattle.node_table.specs.Held.{info}

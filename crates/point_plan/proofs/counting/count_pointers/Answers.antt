@@ -1,4 +1,4 @@
-use Rattle.std.proofs.Common.{◌≡◌, ℕ, List, slice_index, length, ap, sym, ◌∙◌, arith}
+use Rattle.std.proofs.Common.{◌≡◌, ℕ, List, ap, arith}
 use Rattle.place_words.specs.Different.{times}
 use Rattle.point_plan.specs.Nodes.{all_added, all_dropped}
 use Rattle.point_plan.proofs.Times.{times_append}
