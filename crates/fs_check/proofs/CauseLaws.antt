@@ -1,5 +1,5 @@
 -- Causes of faults that are passed on.
-use Rattle.std.proofs.Common.{◌≡◌, ℕ, refl, sym, ap, subst, ◌∙◌}
+use Rattle.std.proofs.Common.{◌≡◌, ℕ, refl, sym, ap, subst}
 use Rattle.std.specs.Prelude.{Result, Ok, Err}
 use Rattle.std.specs.Result.{IsErrAnd, IsErrOf}
 use Rattle.vol_numbers.specs.Cause.{raised}

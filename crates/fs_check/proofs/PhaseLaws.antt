@@ -1,8 +1,7 @@
 -- Phases one after the other.
-use Rattle.std.proofs.Common.{◌≡◌, ℕ, ◌*◌, List, [], Some, None, refl, sym, ap, subst, ◌∙◌}
+use Rattle.std.proofs.Common.{◌≡◌, ◌*◌, List, [], Some, None, refl, sym, ap, subst, ◌∙◌}
 use Rattle.std.specs.Prelude.{Option, Result, Ok, Err}
 use Rattle.std.specs.Result.{IsErrAnd}
-use Rattle.vol_numbers.specs.Cause.{raised}
 use Rattle.vol_numbers.specs.Layout.{Layout, count_blocks}
 use Rattle.count_check.specs.Comparing.{IsCountFinding}
 use Rattle.count_check.specs.declared.fault.CountCheckFault.{CountCheckFault}

@@ -1,8 +1,7 @@
 -- Of private functions: what a phase, or several one after the other, find.
-use Rattle.std.specs.Prelude.{◌≡◌, ℕ, ◌*◌, List, Option, Result, Ok, Err, Some, None}
+use Rattle.std.specs.Prelude.{◌≡◌, ◌*◌, Option, Result, Ok, Err, Some, None}
 use Rattle.vol_numbers.specs.Layout.{Layout, count_blocks}
-use Rattle.image_model.specs.Findings.{◌then◌, walk_finding, mixed_finding, count_finding, reserve_finding}
-use Rattle.image_model.specs.Met.{Met}
+use Rattle.image_model.specs.Findings.{◌then◌, mixed_finding, count_finding, reserve_finding}
 use Rattle.image_model.specs.Nodes.{tail_finding, directory_finding, tree_finding}
 use Rattle.image_model.specs.Seen.{Seen}
 use Rattle.image_model.specs.declared.finding.Finding.{Finding}

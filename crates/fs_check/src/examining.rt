@@ -10,13 +10,12 @@ ghost use Rattle.fs_check.specs.Checked.{IsVerdict, IsLoaded, IsFit};
 ghost use Rattle.fs_check.specs.Looked.{IsLookedAt, IsWellFormed};
 
 use crate::CheckFault;
-use crate::logging::good_log;
+use crate::logging::load_log;
 use crate::looking::{Looked, look};
 use crate::root::current_root;
 use count_pairs::CountTable;
 use disk_model::Disk;
 use held_list::HeldList;
-use log_check::table_of;
 use node_table::NodeTable;
 use op_log::CommandList;
 use root_switch::Current;
@@ -81,16 +80,7 @@ fn with_log<D: Disk>(
     ensures fixed { D.fixed disk.new ≡ D.fixed disk.old }
     ensures cause { HasFsCause (D.faults disk.old) (D.faults disk.new) result }
 {
-    let records = good_log(
-        alloc,
-        disk,
-        &current.body,
-        looked.nodes.as_slice(),
-        &looked.directories,
-        looked.free,
-    )?;
-    // The log was done in a table of its own: this one is that of the last point.
-    let nodes = table_of(alloc, looked.nodes.as_slice(), &looked.directories)?;
+    let (records, nodes) = load_log(alloc, disk, &current.body, &looked)?;
     let used = looked.nodes.len() as u32;
     Ok(Examined {
         current: *current,

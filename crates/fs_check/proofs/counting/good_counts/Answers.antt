@@ -1,12 +1,10 @@
-use Rattle.std.proofs.Common.{◌≡◌, ◌*◌, Some, None, sym, ap, subst, ◌∙◌}
-use Rattle.vol_numbers.specs.Layout.{count_blocks}
+use Rattle.std.proofs.Common.{sym, ap, ◌∙◌}
 use Rattle.block_format.specs.Root.{root_of}
 use Rattle.count_check.specs.declared.comparing.Counted.{Counted}
-use Rattle.image_model.specs.Findings.{count_finding, free_in, reserve_finding}
+use Rattle.image_model.specs.Findings.{free_in, reserve_finding}
 use Rattle.image_model.specs.Seen.{seen}
 use Rattle.fs_check.specs.Faults.{of_counts}
 use Rattle.fs_check.specs.declared.fault.CheckFault.TheVariants.{Found}
-use Rattle.fs_check.specs.Phases.{FindsBy}
 use Rattle.fs_check.proofs.CauseLaws.{cause_err, count_cause}
 use Rattle.fs_check.proofs.PhaseLaws.{phase_err, first_by, later_by, none_two, counts_by, kept_is}
 use Rattle.fs_check.proofs.counting.good_counts.Goals as goal

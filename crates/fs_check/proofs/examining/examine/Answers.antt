@@ -1,13 +1,11 @@
-use Rattle.std.proofs.Common.{◌≡◌, ◌∙◌, None, sym, ap, subst}
+use Rattle.std.proofs.Common.{ap, subst}
 use Rattle.block_format.specs.Root.{Root, root_of}
 use Rattle.disk_model.specs.Disk.{State}
 use Rattle.image_model.specs.Findings.{body_finding}
-use Rattle.image_model.specs.Finds.{early_finding}
 use Rattle.image_model.specs.Roots.{root_finding}
 use Rattle.image_model.specs.Seen.{seen}
-use Rattle.root_switch.specs.Current.{root_of_image}
 use Rattle.fs_check.specs.Phases.{FindsBy}
-use Rattle.fs_check.proofs.LogLaws.{early_fault, verdict_err, in_body, early_none}
+use Rattle.fs_check.proofs.LogLaws.{early_fault, verdict_err, in_body}
 use Rattle.fs_check.proofs.PhaseLaws.{first_by}
 use Rattle.fs_check.proofs.examining.examine.Goals as goal
 

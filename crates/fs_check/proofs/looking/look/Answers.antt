@@ -1,13 +1,11 @@
-use Rattle.std.proofs.Common.{◌≡◌, ◌∙◌, None, sym, subst}
+use Rattle.std.proofs.Common.{◌≡◌, ◌∙◌, None, subst}
 use Rattle.block_format.specs.Root.{root_of}
 use Rattle.block_tree.specs.Tree.{blocks_in}
 use Rattle.disk_model.specs.Disk.{State}
 use Rattle.image_model.specs.Seen.{Seen, seen}
 use Rattle.image_walk.specs.Marks.{Says}
-use Rattle.name_check.specs.Seeing.{HoldsDirectories}
 use Rattle.fs_check.specs.Left.{IsSeen}
 use Rattle.fs_check.specs.Phases.{FindsBy, names_finding, counts_finding}
-use Rattle.fs_check.proofs.CauseLaws.{cause_err, cause_then}
 use Rattle.fs_check.proofs.PhaseLaws.{phase_err, in_walk, in_names, in_counts, in_none}
 use Rattle.fs_check.proofs.looking.look.Goals as goal
 

@@ -1,4 +1,3 @@
-use Rattle.std.proofs.Common.{sym}
 use Rattle.root_switch.specs.declared.reading.Current.{Current}
 use Rattle.root_switch.specs.declared.reading.RootFault.{RootFault}
 use Rattle.fs_check.specs.Faults.{of_root}
