@@ -1,5 +1,6 @@
 pub mod ClosingLaws
 pub mod Count
+pub mod DamageLaws
 pub mod EditLaws
 pub mod EntryLaws
 pub mod Groups

@@ -1,5 +1,5 @@
 -- Causes of faults.
-use Rattle.std.specs.Prelude.{◌≡◌, ◌≤◌, ◌+◌, ◌-◌, ◌^◌, ℕ, Bool, IsTrue, min, List, Result, Ok, Err}
+use Rattle.std.specs.Prelude.{◌≡◌, ◌≢◌, ◌<◌, ◌≤◌, ◌+◌, ◌-◌, ◌^◌, ℕ, Bool, IsTrue, min, slice_index, List, Result, Ok, Err}
 use Rattle.vol_numbers.specs.Cause.{raised}
 use Rattle.vol_numbers.specs.Layout.{Layout}
 use Rattle.disk_model.specs.Disk.{Given}
@@ -43,3 +43,27 @@ IsTreeDamage g tells contents old new (Ok value) = old.count ≤ new.count
 IsTreeDamage g tells contents old new (Err trees.Device) = Unit {0}
 IsTreeDamage g tells contents old new (Err (trees.Damaged b)) = IsDamage g tells contents old new b
 IsTreeDamage g tells contents old new (Err trees.OutOfMemory) = Unit {0}
+
+-- a fact of the block that is damaged, where one is
+abbrev pub IfLookDamaged : {T : Type 0} → Result T LookFault → (ℕ → Type 0) → Type 0
+IfLookDamaged (Ok value) fact = Unit {0}
+IfLookDamaged (Err Device) fact = Unit {0}
+IfLookDamaged (Err (Damaged b)) fact = fact b
+
+abbrev pub IfTreeDamaged : {T : Type 0} → Result T TreeFault → (ℕ → Type 0) → Type 0
+IfTreeDamaged (Ok value) fact = Unit {0}
+IfTreeDamaged (Err trees.Device) fact = Unit {0}
+IfTreeDamaged (Err (trees.Damaged b)) fact = fact b
+IfTreeDamaged (Err trees.OutOfMemory) fact = Unit {0}
+
+-- This is the block that a pointer leads to, which is one.
+pub record IsBlockOf (ptr b : ℕ) : Type 0 where
+  pub is : b ≡ ptr
+  pub some : b ≢ 0
+
+-- This is the block that one of some pointers leads to, from one of them on.
+pub record IsBlockAmong (first : ℕ) (ptrs : List ℕ) (b : ℕ) : Type 0 where
+  pub at : ℕ
+  pub from : first ≤ at
+  pub below : at < 1024
+  pub block : IsBlockOf (slice_index ptrs at) b

@@ -14,7 +14,7 @@ ghost use Rattle.block_tree.specs.Renewal.{NeedsBlock};
 ghost use Rattle.block_tree.specs.Room.{leaf_room, leaves_room};
 ghost use Rattle.block_tree.specs.Opened.{first_of};
 ghost use Rattle.block_tree.specs.Leaf.{IsLeafEdited, IsLeafRewritten, IsFirstRewritten, IsUntouched, AreLeavesRewritten};
-ghost use Rattle.block_tree.specs.Causes.{HasTreeCause, IsTreeDamage};
+ghost use Rattle.block_tree.specs.Causes.{HasTreeCause, IsTreeDamage, IfTreeDamaged, IsBlockOf, IsBlockAmong};
 
 use crate::edit::{Edit, edited};
 use crate::looking::entries;
@@ -82,6 +82,7 @@ fn rewrite_one<D: Disk>(
     ensures uses { OnOk result (Uses (portion k edit.now.changes.now) notes.old notes.new) }
     ensures sound { IfOk result (λ new. LeadInto (layout_of g.now) edit.now.changes.now → AreSound (layout_of g.now) notes.old → AreSound (layout_of g.now) notes.new × IsPointer (layout_of g.now) new) }
     ensures damaged { IsTreeDamage (layout_of g.now) D.tells (blocks_in (D.state disk.new).contents) (D.given disk.old) (D.given disk.new) result }
+    ensures read { IfTreeDamaged result (IsBlockOf leaf) }
     ensures same { IsTrue D.tells → D.state disk.new ≡ D.state disk.old }
     ensures moments { IsTrue D.tells → Adds (D.past disk.old) (D.past disk.new) (λ s. s ≡ D.state disk.old) }
     ensures fixed { D.fixed disk.new ≡ D.fixed disk.old }
@@ -118,6 +119,7 @@ pub(crate) fn rewrite_first<D: Disk>(
     ensures uses { OnOk result (Uses (portion 0 edit.now.changes.now) notes.old notes.new) }
     ensures sound { IfOk result (λ new. LeadInto (layout_of g.now) edit.now.changes.now → AreSound (layout_of g.now) notes.old → AreSound (layout_of g.now) notes.new × IsPointer (layout_of g.now) new) }
     ensures damaged { IsTreeDamage (layout_of g.now) D.tells (blocks_in (D.state disk.new).contents) (D.given disk.old) (D.given disk.new) result }
+    ensures read { IfTreeDamaged result (IsBlockOf leaf) }
     ensures same { IsTrue D.tells → D.state disk.new ≡ D.state disk.old }
     ensures moments { IsTrue D.tells → Adds (D.past disk.old) (D.past disk.new) (λ s. s ≡ D.state disk.old) }
     ensures fixed { D.fixed disk.new ≡ D.fixed disk.old }
@@ -156,6 +158,7 @@ pub(crate) fn rewrite_rest<D: Disk>(
     ensures long { OnOk result (length leaves.new.ptrs ≡ 1024) }
     ensures first { OnOk result (slice_index leaves.new.ptrs 0 ≡ slice_index leaves.old.ptrs 0) }
     ensures damaged { IsTreeDamage (layout_of g.now) D.tells (blocks_in (D.state disk.new).contents) (D.given disk.old) (D.given disk.new) result }
+    ensures read { IfTreeDamaged result (IsBlockAmong 1 leaves.old.ptrs) }
     ensures same { IsTrue D.tells → D.state disk.new ≡ D.state disk.old }
     ensures moments { IsTrue D.tells → Adds (D.past disk.old) (D.past disk.new) (λ s. s ≡ D.state disk.old) }
     ensures fixed { D.fixed disk.new ≡ D.fixed disk.old }

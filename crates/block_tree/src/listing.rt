@@ -1,13 +1,15 @@
 //! Lists the pointers of a tree.
-ghost use Rattle.std.specs.Prelude.{◌≡◌, ◌∷◌, ◌++◌, [], All, length, IfOk, OnOk, IsTrue};
+ghost use Rattle.std.specs.Prelude.{◌≡◌, ◌∷◌, ◌++◌, ℕ, true, [], All, length, IfOk, OnOk, IsErrOf, IsTrue};
 ghost use Rattle.std.specs.List.{flat_map};
 ghost use Rattle.vol_numbers.specs.Geometry.{layout_of};
 ghost use Rattle.disk_model.specs.Past.{Adds};
 ghost use Rattle.block_format.specs.Index.{IsPointer};
+ghost use Rattle.place_words.specs.Different.{is_among};
 ghost use Rattle.block_tree.specs.Tree.{blocks_in, index_at, nonzero};
-ghost use Rattle.block_tree.specs.Root.{tree_pointers, IsRoot};
+ghost use Rattle.block_tree.specs.Root.{tree_indexes, tree_pointers, IsRoot};
 ghost use Rattle.block_tree.specs.Parts.{all_pointers};
-ghost use Rattle.block_tree.specs.Causes.{HasTreeCause, IsTreeDamage};
+ghost use Rattle.block_tree.specs.Causes.{HasTreeCause, IsTreeDamage, IfTreeDamaged, IsBlockAmong};
+ghost use Rattle.block_tree.specs.declared.fault.TreeFault.TheVariants.{Damaged};
 
 use crate::looking::entries;
 use crate::{TreeFault, TreeRoot};
@@ -27,6 +29,8 @@ pub fn pointers<D: Disk>(
     requires root { IsRoot (layout_of g.now) root.now }
     ensures pointers { IfOk result (λ ptrs. IsTrue D.tells → ptrs ≡ tree_pointers (blocks_in (D.state disk.old).contents) root.now) }
     ensures damaged { IsTreeDamage (layout_of g.now) D.tells (blocks_in (D.state disk.new).contents) (D.given disk.old) (D.given disk.new) result }
+    // A damaged block is one of the tree's index blocks.
+    ensures among { (b : ℕ) → IsErrOf result (Damaged b) → IsTrue D.tells → is_among (tree_indexes (blocks_in (D.state disk.old).contents) root.now) b ≡ true }
     ensures same { IsTrue D.tells → D.state disk.new ≡ D.state disk.old }
     ensures moments { IsTrue D.tells → Adds (D.past disk.old) (D.past disk.new) (λ s. s ≡ D.state disk.old) }
     ensures fixed { D.fixed disk.new ≡ D.fixed disk.old }
@@ -48,6 +52,7 @@ fn push_tree<D: Disk>(
     requires root { IsRoot (layout_of g.now) root.now }
     ensures pushed { OnOk result (IsTrue D.tells → out.new.items ≡ out.old.items ++ nonzero (all_pointers (blocks_in (D.state disk.old).contents) root.now)) }
     ensures damaged { IsTreeDamage (layout_of g.now) D.tells (blocks_in (D.state disk.new).contents) (D.given disk.old) (D.given disk.new) result }
+    ensures among { IfTreeDamaged result (λ b. IsTrue D.tells → is_among (tree_indexes (blocks_in (D.state disk.old).contents) root.now) b ≡ true) }
     ensures same { IsTrue D.tells → D.state disk.new ≡ D.state disk.old }
     ensures moments { IsTrue D.tells → Adds (D.past disk.old) (D.past disk.new) (λ s. s ≡ D.state disk.old) }
     ensures fixed { D.fixed disk.new ≡ D.fixed disk.old }
@@ -77,6 +82,7 @@ fn push_leaves<D: Disk>(
     requires tops { All (IsPointer (layout_of g.now)) tops.now.ptrs }
     ensures pushed { OnOk result (IsTrue D.tells → out.new.items ≡ out.old.items ++ nonzero (flat_map (index_at (blocks_in (D.state disk.old).contents)) tops.now.ptrs)) }
     ensures damaged { IsTreeDamage (layout_of g.now) D.tells (blocks_in (D.state disk.new).contents) (D.given disk.old) (D.given disk.new) result }
+    ensures read { IfTreeDamaged result (IsBlockAmong 0 tops.now.ptrs) }
     ensures same { IsTrue D.tells → D.state disk.new ≡ D.state disk.old }
     ensures moments { IsTrue D.tells → Adds (D.past disk.old) (D.past disk.new) (λ s. s ≡ D.state disk.old) }
     ensures fixed { D.fixed disk.new ≡ D.fixed disk.old }

@@ -1,12 +1,14 @@
 //! Looks up a place.
-ghost use Rattle.std.specs.Prelude.{◌≡◌, ◌<◌, ◌≤◌, ◌^◌, [], All, IfOk, IsTrue, slice_index, replicate};
+ghost use Rattle.std.specs.Prelude.{◌≡◌, ◌<◌, ◌≤◌, ◌^◌, ℕ, true, [], All, IfOk, IsErrOf, IsTrue, slice_index, replicate};
 ghost use Rattle.vol_numbers.specs.Geometry.{layout_of};
 ghost use Rattle.disk_model.specs.Past.{Adds};
 ghost use Rattle.block_format.specs.Index.{IsPointer};
+ghost use Rattle.place_words.specs.Different.{is_among};
 ghost use Rattle.block_tree.specs.Tree.{blocks_in, index_at, nonzero};
-ghost use Rattle.block_tree.specs.Root.{block_at, IsRoot};
+ghost use Rattle.block_tree.specs.Root.{block_at, tree_indexes, IsRoot};
 ghost use Rattle.block_tree.specs.Parts.{SameEntries};
-ghost use Rattle.block_tree.specs.Causes.{HasLookCause, IsLookDamage};
+ghost use Rattle.block_tree.specs.Causes.{HasLookCause, IsLookDamage, IfLookDamaged, IsBlockOf};
+ghost use Rattle.block_tree.specs.declared.fault.LookFault.TheVariants.{Damaged};
 
 use crate::{LookFault, TreeRoot};
 use block_format::{Index, read_index};
@@ -26,6 +28,8 @@ pub fn look<D: Disk>(
     ensures found { IfOk result (λ block. IsTrue D.tells → block ≡ block_at (blocks_in (D.state disk.old).contents) root.now place) }
     ensures pointer { IfOk result (IsPointer (layout_of g.now)) }
     ensures damaged { IsLookDamage (layout_of g.now) D.tells (blocks_in (D.state disk.new).contents) (D.given disk.old) (D.given disk.new) result }
+    // A damaged block is one of the tree's index blocks.
+    ensures among { (b : ℕ) → IsErrOf result (Damaged b) → IsTrue D.tells → is_among (tree_indexes (blocks_in (D.state disk.old).contents) root.now) b ≡ true }
     ensures same { IsTrue D.tells → D.state disk.new ≡ D.state disk.old }
     ensures moments { IsTrue D.tells → Adds (D.past disk.old) (D.past disk.new) (λ s. s ≡ D.state disk.old) }
     ensures fixed { D.fixed disk.new ≡ D.fixed disk.old }
@@ -49,6 +53,7 @@ fn entry<D: Disk>(disk: &mut D, g: &Geometry, at: BlockNo, i: u32) -> Result<Blo
     ensures found { IfOk result (λ block. IsTrue D.tells → block ≡ slice_index (index_at (blocks_in (D.state disk.old).contents) at) i) }
     ensures pointer { IfOk result (IsPointer (layout_of g.now)) }
     ensures damaged { IsLookDamage (layout_of g.now) D.tells (blocks_in (D.state disk.new).contents) (D.given disk.old) (D.given disk.new) result }
+    ensures read { IfLookDamaged result (IsBlockOf at) }
     ensures same { IsTrue D.tells → D.state disk.new ≡ D.state disk.old }
     ensures moments { IsTrue D.tells → Adds (D.past disk.old) (D.past disk.new) (λ s. s ≡ D.state disk.old) }
     ensures fixed { D.fixed disk.new ≡ D.fixed disk.old }
@@ -66,6 +71,7 @@ pub(crate) fn entries<D: Disk>(disk: &mut D, g: &Geometry, at: BlockNo) -> Resul
     ensures pointers { IfOk result (λ index. All (IsPointer (layout_of g.now)) index.ptrs) }
     ensures hole { IfOk result (λ index. at ≡ 0 → nonzero index.ptrs ≡ []) }
     ensures damaged { IsLookDamage (layout_of g.now) D.tells (blocks_in (D.state disk.new).contents) (D.given disk.old) (D.given disk.new) result }
+    ensures read { IfLookDamaged result (IsBlockOf at) }
     ensures same { IsTrue D.tells → D.state disk.new ≡ D.state disk.old }
     ensures moments { IsTrue D.tells → Adds (D.past disk.old) (D.past disk.new) (λ s. s ≡ D.state disk.old) }
     ensures fixed { D.fixed disk.new ≡ D.fixed disk.old }

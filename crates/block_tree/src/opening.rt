@@ -1,13 +1,14 @@
 //! Reads what of a tree is needed to rewrite it.
-ghost use Rattle.std.specs.Prelude.{◌≡◌, ◌∷◌, All, IfOk, IsTrue, replicate, slice_index};
+ghost use Rattle.std.specs.Prelude.{◌≡◌, ◌∷◌, true, All, IfOk, IsTrue, replicate, slice_index};
 ghost use Rattle.vol_numbers.specs.Geometry.{layout_of};
 ghost use Rattle.disk_model.specs.Past.{Adds};
 ghost use Rattle.block_format.specs.Index.{IsPointer};
+ghost use Rattle.place_words.specs.Different.{is_among};
 ghost use Rattle.block_tree.specs.Tree.{blocks_in};
-ghost use Rattle.block_tree.specs.Root.{IsRoot};
+ghost use Rattle.block_tree.specs.Root.{tree_indexes, IsRoot};
 ghost use Rattle.block_tree.specs.Parts.{SameEntries};
 ghost use Rattle.block_tree.specs.Opened.{Opens, first_of};
-ghost use Rattle.block_tree.specs.Causes.{HasLookCause, IsLookDamage};
+ghost use Rattle.block_tree.specs.Causes.{HasLookCause, IsLookDamage, IfLookDamaged, IsBlockOf};
 
 use crate::looking::{entries, no_pointers};
 use crate::{LookFault, TreeRoot};
@@ -36,6 +37,7 @@ pub(crate) fn open_tree<D: Disk>(
     ensures top { IfOk result (λ o. IsPointer (layout_of g.now) o.top) }
     ensures hole { IfOk result (λ o. root.now.height ≡ 0 → slice_index o.leaves.ptrs 0 ≡ 0) }
     ensures damaged { IsLookDamage (layout_of g.now) D.tells (blocks_in (D.state disk.new).contents) (D.given disk.old) (D.given disk.new) result }
+    ensures among { IfLookDamaged result (λ b. IsTrue D.tells → is_among (tree_indexes (blocks_in (D.state disk.old).contents) root.now) b ≡ true) }
     ensures same { IsTrue D.tells → D.state disk.new ≡ D.state disk.old }
     ensures moments { IsTrue D.tells → Adds (D.past disk.old) (D.past disk.new) (λ s. s ≡ D.state disk.old) }
     ensures fixed { D.fixed disk.new ≡ D.fixed disk.old }
@@ -76,6 +78,7 @@ pub(crate) fn first_pointers<D: Disk>(
     ensures pointers { IfOk result (λ index. All (IsPointer (layout_of g.now)) index.ptrs) }
     ensures entries { IfOk result (λ index. IsTrue D.tells → SameEntries (first_of (blocks_in (D.state disk.old).contents) root.now leaf) index.ptrs) }
     ensures damaged { IsLookDamage (layout_of g.now) D.tells (blocks_in (D.state disk.new).contents) (D.given disk.old) (D.given disk.new) result }
+    ensures read { IfLookDamaged result (IsBlockOf leaf) }
     ensures same { IsTrue D.tells → D.state disk.new ≡ D.state disk.old }
     ensures moments { IsTrue D.tells → Adds (D.past disk.old) (D.past disk.new) (λ s. s ≡ D.state disk.old) }
     ensures fixed { D.fixed disk.new ≡ D.fixed disk.old }

@@ -1,5 +1,5 @@
 //! Plans how a tree is rewritten.
-ghost use Rattle.std.specs.Prelude.{◌≡◌, ◌<◌, ◌≤◌, ◌+◌, ◌++◌, ◌^◌, ◌⊎◌, true, false, ℕ, All, length, map, IfOk, OnErr, IsTrue};
+ghost use Rattle.std.specs.Prelude.{◌≡◌, ◌<◌, ◌≤◌, ◌+◌, ◌++◌, ◌^◌, ◌⊎◌, true, false, ℕ, All, length, map, IfOk, OnErr, IsErrOf, IsTrue};
 ghost use Rattle.std.specs.List.Sorted.{IsPermutation};
 ghost use Rattle.vol_numbers.specs.Geometry.{layout_of};
 ghost use Rattle.vol_numbers.specs.declared.runs.Change.{Change as ChangeOf};
@@ -15,7 +15,8 @@ ghost use Rattle.block_tree.specs.Opened.{FitsHeight, ChangesFit, IsTreeRewritte
 ghost use Rattle.block_tree.specs.Order.{IsSublist, leaves_then_top};
 ghost use Rattle.block_tree.specs.Pages.{IsIndexPage, LeadInto};
 ghost use Rattle.block_tree.specs.Edit.{cut_at, changed_at, leaves_of, portion, AreInOrder, KeepsLeaf};
-ghost use Rattle.block_tree.specs.Causes.{HasTreeCause, IsTreeDamage};
+ghost use Rattle.block_tree.specs.Causes.{HasTreeCause, IsTreeDamage, IfTreeDamaged};
+ghost use Rattle.block_tree.specs.declared.fault.TreeFault.TheVariants.{Damaged};
 
 use crate::edit::Edit;
 use crate::notes::Notes;
@@ -94,6 +95,8 @@ pub fn rewrite<D: Disk>(
     ensures height { IfOk result (λ w. w.root.height ≡ height_of (blocks_of size)) }
     ensures unchanged { OnErr result (free.new ≡ free.old) }
     ensures damaged { IsTreeDamage (layout_of g.now) D.tells (blocks_in (D.state disk.new).contents) (D.given disk.old) (D.given disk.new) result }
+    // A damaged block is one of the tree's index blocks.
+    ensures among { (b : ℕ) → IsErrOf result (Damaged b) → IsTrue D.tells → is_among (tree_indexes (blocks_in (D.state disk.old).contents) root.now) b ≡ true }
     ensures same { IsTrue D.tells → D.state disk.new ≡ D.state disk.old }
     ensures moments { IsTrue D.tells → Adds (D.past disk.old) (D.past disk.new) (λ s. s ≡ D.state disk.old) }
     ensures fixed { D.fixed disk.new ≡ D.fixed disk.old }
@@ -136,6 +139,7 @@ fn plan_changes<D: Disk>(
     ensures sound { IfOk result (λ w. LeadInto (layout_of g.now) changes.now → All (IsPointer (layout_of g.now)) free.old → All (IsIndexPage (layout_of g.now)) w.pages × IsPointer (layout_of g.now) w.root.ptr) }
     ensures unchanged { OnErr result (free.new ≡ free.old) }
     ensures damaged { IsTreeDamage (layout_of g.now) D.tells (blocks_in (D.state disk.new).contents) (D.given disk.old) (D.given disk.new) result }
+    ensures among { IfTreeDamaged result (λ b. IsTrue D.tells → is_among (tree_indexes (blocks_in (D.state disk.old).contents) root.now) b ≡ true) }
     ensures same { IsTrue D.tells → D.state disk.new ≡ D.state disk.old }
     ensures moments { IsTrue D.tells → Adds (D.past disk.old) (D.past disk.new) (λ s. s ≡ D.state disk.old) }
     ensures fixed { D.fixed disk.new ≡ D.fixed disk.old }

@@ -1,20 +1,20 @@
 //! Rewrites a tree.
-ghost use Rattle.std.specs.Prelude.{◌≡◌, ◌≢◌, ◌<◌, ◌≤◌, ◌+◌, ℕ, [], All, List, length, IfOk, OnOk, IsTrue, nat_lt};
+ghost use Rattle.std.specs.Prelude.{◌≡◌, ◌≢◌, ◌<◌, ◌≤◌, ◌+◌, ℕ, true, [], All, List, length, IfOk, OnOk, IsTrue, nat_lt};
 ghost use Rattle.vol_numbers.specs.Geometry.{layout_of};
 ghost use Rattle.vol_numbers.specs.Layout.{Layout};
 ghost use Rattle.vol_numbers.specs.declared.runs.Change.{Change as ChangeOf};
 ghost use Rattle.disk_model.specs.Past.{Adds};
 ghost use Rattle.block_format.specs.Index.{IsPointer};
 ghost use Rattle.block_tree.specs.Tree.{Blocks, blocks_in, nonzero};
-ghost use Rattle.block_tree.specs.Root.{IsRoot};
+ghost use Rattle.block_tree.specs.Root.{tree_indexes, IsRoot};
 ghost use Rattle.block_tree.specs.declared.root.TreeRoot.{TreeRoot as RootOf};
-ghost use Rattle.place_words.specs.Different.{different};
+ghost use Rattle.place_words.specs.Different.{different, is_among};
 ghost use Rattle.block_tree.specs.Edit.{leaves_of, portion, AreInOrder};
 ghost use Rattle.block_tree.specs.Notes.{Noted, Takes, Uses, AreSound};
 ghost use Rattle.block_tree.specs.Order.{InTurn};
 ghost use Rattle.block_tree.specs.Pages.{LeadInto};
 ghost use Rattle.block_tree.specs.Opened.{FitsHeight, ChangesFit, HasLeaves, IsGivenWay, IsTreeRewritten, first_of};
-ghost use Rattle.block_tree.specs.Causes.{HasTreeCause, IsTreeDamage};
+ghost use Rattle.block_tree.specs.Causes.{HasTreeCause, IsTreeDamage, IfTreeDamaged, IsBlockOf};
 
 use crate::edit::{Edit, edited};
 use crate::leaves::{rewrite_first, rewrite_rest};
@@ -59,6 +59,7 @@ fn rewrite_leaves<D: Disk>(
     ensures uses { OnOk result (Uses edit.now.changes.now notes.old notes.new) }
     ensures sound { IfOk result (λ l. LeadInto (layout_of g.now) edit.now.changes.now → AreSound (layout_of g.now) notes.old → AreSound (layout_of g.now) notes.new × IsPointer (layout_of g.now) l.top × All (IsPointer (layout_of g.now)) l.leaves.ptrs) }
     ensures damaged { IsTreeDamage (layout_of g.now) D.tells (blocks_in (D.state disk.new).contents) (D.given disk.old) (D.given disk.new) result }
+    ensures among { IfTreeDamaged result (λ b. IsTrue D.tells → is_among (tree_indexes (blocks_in (D.state disk.old).contents) root.now) b ≡ true) }
     ensures same { IsTrue D.tells → D.state disk.new ≡ D.state disk.old }
     ensures moments { IsTrue D.tells → Adds (D.past disk.old) (D.past disk.new) (λ s. s ≡ D.state disk.old) }
     ensures fixed { D.fixed disk.new ≡ D.fixed disk.old }
@@ -123,6 +124,7 @@ fn give_way<D: Disk>(
     ensures uses { OnOk result (Uses (portion 0 edit.now.changes.now) notes.old notes.new) }
     ensures pointer { IfOk result (λ ptr. LeadInto (layout_of g.now) edit.now.changes.now → IsPointer (layout_of g.now) ptr) }
     ensures damaged { IsTreeDamage (layout_of g.now) D.tells (blocks_in (D.state disk.new).contents) (D.given disk.old) (D.given disk.new) result }
+    ensures read { IfTreeDamaged result (IsBlockOf leaf) }
     ensures same { IsTrue D.tells → D.state disk.new ≡ D.state disk.old }
     ensures moments { IsTrue D.tells → Adds (D.past disk.old) (D.past disk.new) (λ s. s ≡ D.state disk.old) }
     ensures fixed { D.fixed disk.new ≡ D.fixed disk.old }
@@ -155,6 +157,7 @@ fn rewrite_to_block<D: Disk>(
     ensures uses { OnOk result (Uses edit.now.changes.now notes.old notes.new) }
     ensures sound { IfOk result (λ ptr. LeadInto (layout_of g.now) edit.now.changes.now → AreSound (layout_of g.now) notes.old → AreSound (layout_of g.now) notes.new × IsPointer (layout_of g.now) ptr) }
     ensures damaged { IsTreeDamage (layout_of g.now) D.tells (blocks_in (D.state disk.new).contents) (D.given disk.old) (D.given disk.new) result }
+    ensures among { IfTreeDamaged result (λ b. IsTrue D.tells → is_among (tree_indexes (blocks_in (D.state disk.old).contents) root.now) b ≡ true) }
     ensures same { IsTrue D.tells → D.state disk.new ≡ D.state disk.old }
     ensures moments { IsTrue D.tells → Adds (D.past disk.old) (D.past disk.new) (λ s. s ≡ D.state disk.old) }
     ensures fixed { D.fixed disk.new ≡ D.fixed disk.old }
@@ -196,6 +199,7 @@ pub(crate) fn rewrite_tree<D: Disk>(
     ensures uses { OnOk result (Uses edit.now.changes.now notes.old notes.new) }
     ensures sound { IfOk result (λ new. LeadInto (layout_of g.now) edit.now.changes.now → AreSound (layout_of g.now) notes.old → AreSound (layout_of g.now) notes.new × IsPointer (layout_of g.now) new.ptr) }
     ensures damaged { IsTreeDamage (layout_of g.now) D.tells (blocks_in (D.state disk.new).contents) (D.given disk.old) (D.given disk.new) result }
+    ensures among { IfTreeDamaged result (λ b. IsTrue D.tells → is_among (tree_indexes (blocks_in (D.state disk.old).contents) root.now) b ≡ true) }
     ensures same { IsTrue D.tells → D.state disk.new ≡ D.state disk.old }
     ensures moments { IsTrue D.tells → Adds (D.past disk.old) (D.past disk.new) (λ s. s ≡ D.state disk.old) }
     ensures fixed { D.fixed disk.new ≡ D.fixed disk.old }

@@ -1,10 +1,14 @@
-use Rattle.std.proofs.Common.{◌≡◌, ◌∙◌, ◌++◌, ◌∷◌, [], List, ℕ, ap, sym, subst, arith}
+use Rattle.std.proofs.Common.{◌≡◌, ◌∙◌, ◌++◌, ◌∷◌, [], List, ℕ, IsTrue, true, ap, sym, subst, arith}
 use Rattle.std.specs.List.{flat_map}
 use Rattle.std.proofs.lemmas.List.{append_assoc}
 use Rattle.disk_model.specs.Disk.{State}
 use Rattle.block_tree.specs.Tree.{blocks_in, index_at, nonzero}
 use Rattle.block_tree.specs.Parts.{pointers_under}
 use Rattle.block_tree.proofs.ListingLaws.{listed_leaf, listed_top, listed_behind}
+use Rattle.block_tree.specs.Root.{tree_indexes}
+use Rattle.block_tree.specs.Causes.{IsBlockAmong}
+use Rattle.place_words.specs.Different.{is_among}
+use Rattle.block_tree.proofs.DamageLaws.{damage_like, top_among}
 use Rattle.block_tree.proofs.listing.push_tree.Goals as goal
 
 pub returns-then-root-eq0-clause-pushed : goal.returns-then-root-eq0-clause-pushed
@@ -37,3 +41,11 @@ returns-clause-pushed g c tells =
     ∙ (ap (λ (xs : List ℕ). xs ++ nonzero (flat_map (index_at read) tops)) level
     ∙ (listed_behind front (nonzero (ptr ∷ [])) (nonzero tops) (nonzero (flat_map (index_at read) tops))
     ∙ (ap (λ (xs : List ℕ). front ++ xs) (listed_top read ptr (index_at read ptr) tops (c.in_ok-top.ensures.entries tells).some) ∙ ap (λ (h : ℕ). front ++ nonzero (pointers_under read h ptr)) (sym two))))
+
+pub returns-in_err-push_leaves-clause-among : goal.returns-in_err-push_leaves-clause-among
+returns-in_err-push_leaves-clause-among g c =
+    let read = blocks_in (g.D.Disk.state c.args.disk.now).contents in
+    let root = c.args.root.now in
+    let two : root.height ≡ 2 = omega arith in
+    damage_like c.from_residual-in_err-push_leaves.result c.in_err-push_leaves.field-0.0 (IsBlockAmong 0 c.in_ok-top.top.ptrs) (λ b. IsTrue g.D.Disk.tells → is_among (tree_indexes read root) b ≡ true)
+    c.from_residual-in_err-push_leaves.ensures.1 c.in_err-push_leaves.ensures.read (λ b among tells. top_among read root.height root.ptr c.in_ok-top.top.ptrs two (c.in_ok-top.ensures.entries tells) b among)

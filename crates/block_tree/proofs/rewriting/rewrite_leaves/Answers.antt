@@ -1,5 +1,5 @@
-use Rattle.std.proofs.Common.{◌≡◌, ◌∙◌, ℕ, sym, subst, arith, set}
-use Rattle.std.specs.Prelude.{slice_index, nat_lt}
+use Rattle.std.proofs.Common.{◌≡◌, ◌∙◌, ℕ, true, sym, subst, arith, set}
+use Rattle.std.specs.Prelude.{IsTrue, slice_index, nat_lt}
 use Rattle.std.proofs.lemmas.List.{get_or-set_same, get_or-set_other}
 use Rattle.block_format.specs.Index.{IsPointer}
 use Rattle.vol_numbers.specs.Geometry.{layout_of}
@@ -13,6 +13,10 @@ use Rattle.block_tree.proofs.LeafLaws.{takes_then}
 use Rattle.block_tree.proofs.UseLaws.{uses_all}
 use Rattle.block_tree.proofs.SoundLaws.{all_first}
 use Rattle.block_tree.proofs.ClosingLaws.{leaves_done, emptied_leaf, low_power}
+use Rattle.place_words.specs.Different.{is_among}
+use Rattle.block_tree.specs.Root.{tree_indexes}
+use Rattle.block_tree.specs.Causes.{IsBlockOf, IsBlockAmong}
+use Rattle.block_tree.proofs.DamageLaws.{damage_like, opened_among, rest_among}
 use Rattle.block_tree.proofs.rewriting.rewrite_leaves.Goals as goal
 
 pub rewrite_rest-requires-clause-leaves : goal.rewrite_rest-requires-clause-leaves
@@ -62,3 +66,17 @@ returns-clause-sound g c lead sound =
     let rest = c.in_ok-rewrite_rest.ensures.sound lead first.0 in
     let at_first : slice_index c.rewrite_rest.new.leaves.ptrs 0 ≡ c.in_ok-first.first = c.in_ok-rewrite_rest.ensures.first ∙ get_or-set_same c.in_ok-opened.opened.leaves.ptrs 0 c.in_ok-first.first 0 (omega arith) in
     (rest.0, c.in_ok-opened.ensures.top, all_first layout c.rewrite_rest.new.leaves.ptrs c.in_ok-rewrite_rest.ensures.long (subst (λ (x : ℕ). IsPointer layout x) (sym at_first) first.1) (λ j some lt. rest.1 j some lt))
+
+pub returns-in_err-first-clause-among : goal.returns-in_err-first-clause-among
+returns-in_err-first-clause-among g c =
+    let read = blocks_in (g.D.Disk.state c.args.disk.now).contents in
+    let leaves = c.in_ok-opened.opened.leaves.ptrs in
+    damage_like c.from_residual-in_err-first.result c.in_err-first.field-0.0 (IsBlockOf (slice_index leaves 0)) (λ b. IsTrue g.D.Disk.tells → is_among (tree_indexes read c.args.root.now) b ≡ true)
+    c.from_residual-in_err-first.ensures.1 c.in_err-first.ensures.read (λ b of tells. opened_among (c.in_ok-opened.ensures.opened tells) 0 b (omega arith) of)
+
+pub returns-in_err-rewrite_rest-clause-among : goal.returns-in_err-rewrite_rest-clause-among
+returns-in_err-rewrite_rest-clause-among g c =
+    let read = blocks_in (g.D.Disk.state c.args.disk.now).contents in
+    let leaves = c.in_ok-opened.opened.leaves.ptrs in
+    damage_like c.from_residual-in_err-rewrite_rest.result c.in_err-rewrite_rest.field-0.0 (IsBlockAmong 1 (set leaves 0 c.in_ok-first.first)) (λ b. IsTrue g.D.Disk.tells → is_among (tree_indexes read c.args.root.now) b ≡ true)
+    c.from_residual-in_err-rewrite_rest.ensures.1 c.in_err-rewrite_rest.ensures.read (λ b among tells. rest_among (c.in_ok-opened.ensures.opened tells) c.in_ok-first.first b among)

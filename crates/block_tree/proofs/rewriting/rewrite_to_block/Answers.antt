@@ -1,4 +1,4 @@
-use Rattle.std.proofs.Common.{◌≡◌, ◌<◌, ◌≤◌, ◌∙◌, ℕ, List, [], ◌∷◌, refl, ap, sym, subst, arith, set, length}
+use Rattle.std.proofs.Common.{◌≡◌, ◌<◌, ◌≤◌, ◌∙◌, ℕ, List, [], ◌∷◌, true, refl, ap, sym, subst, arith, set, length}
 use Rattle.std.proofs.lemmas.List.{get_or-set_other}
 use Rattle.std.specs.Prelude.{IsTrue, slice_index, nat_lt}
 use Rattle.vol_numbers.specs.Geometry.{layout_of}
@@ -19,6 +19,10 @@ use Rattle.block_tree.proofs.LeafLaws.{takes_like, stand_same}
 use Rattle.block_tree.proofs.UseLaws.{uses_none, uses_then, uses_all}
 use Rattle.block_tree.proofs.SoundLaws.{sound_same}
 use Rattle.block_tree.proofs.ClosingLaws.{block_settles, block_indexes, block_in_turn, tree_block, settles_remove, emptied_leaf}
+use Rattle.place_words.specs.Different.{is_among}
+use Rattle.block_tree.specs.Root.{tree_indexes}
+use Rattle.block_tree.specs.Causes.{IsBlockOf, IsBlockAmong}
+use Rattle.block_tree.proofs.DamageLaws.{damage_like, opened_among, rest_among}
 use Rattle.block_tree.proofs.rewriting.rewrite_to_block.Goals as goal
 
 pub rewrite_rest-requires-clause-leaves : goal.rewrite_rest-requires-clause-leaves
@@ -84,3 +88,17 @@ returns-clause-sound g c lead sound =
     let begun = sound_same layout c.args.notes.now c.give_way.new.notes c.in_ok-ptr.ensures.pages c.in_ok-ptr.ensures.free sound in
     let rest = c.in_ok-rewrite_rest.ensures.sound lead begun in
     (sound_same layout c.rewrite_rest.new.notes c.remove.new.self (ap (λ (n : Noted). n.pages) c.in_ok-remove.ensures) (ap (λ (n : Noted). n.free) c.in_ok-remove.ensures) rest.0, c.in_ok-ptr.ensures.pointer lead)
+
+pub returns-in_err-ptr-clause-among : goal.returns-in_err-ptr-clause-among
+returns-in_err-ptr-clause-among g c =
+    let read = blocks_in (g.D.Disk.state c.args.disk.now).contents in
+    let leaves = c.in_ok-opened.opened.leaves.ptrs in
+    damage_like c.from_residual-in_err-ptr.result c.in_err-ptr.field-0.0 (IsBlockOf (slice_index leaves 0)) (λ b. IsTrue g.D.Disk.tells → is_among (tree_indexes read c.args.root.now) b ≡ true)
+    c.from_residual-in_err-ptr.ensures.1 c.in_err-ptr.ensures.read (λ b of tells. opened_among (c.in_ok-opened.ensures.opened tells) 0 b (omega arith) of)
+
+pub returns-in_err-rewrite_rest-clause-among : goal.returns-in_err-rewrite_rest-clause-among
+returns-in_err-rewrite_rest-clause-among g c =
+    let read = blocks_in (g.D.Disk.state c.args.disk.now).contents in
+    let leaves = c.in_ok-opened.opened.leaves.ptrs in
+    damage_like c.from_residual-in_err-rewrite_rest.result c.in_err-rewrite_rest.field-0.0 (IsBlockAmong 1 (set leaves 0 0)) (λ b. IsTrue g.D.Disk.tells → is_among (tree_indexes read c.args.root.now) b ≡ true)
+    c.from_residual-in_err-rewrite_rest.ensures.1 c.in_err-rewrite_rest.ensures.read (λ b among tells. rest_among (c.in_ok-opened.ensures.opened tells) 0 b among)
