@@ -1,25 +1,24 @@
 -- The counts of an image in which a point is planned are its pointers.
 use Rattle.std.proofs.Common.{◌≡◌, ℕ, zero, suc, ◌+◌, ◌*◌, ◌<◌, ◌≤◌, Bool, true, false, cond, List, [], ◌∷◌, ◌++◌, map, refl, sym, ap, subst, ◌∙◌, arith}
-use Rattle.std.specs.Prelude.{◌==◌, ◌||◌, get_or, count_by, nat_eq}
+use Rattle.std.specs.Prelude.{◌==◌, ◌||◌, get_or, nat_eq}
 use Rattle.std.specs.List.{flat_map}
 use Rattle.std.proofs.lemmas.Bool.Decides.{nat_tests}
 use Rattle.std.proofs.lemmas.List.Concat.{flat_map-cons}
 use Rattle.vol_numbers.specs.Layout.{count_blocks}
 use Rattle.vol_numbers.specs.declared.block.Block.{Block}
 use Rattle.root_switch.specs.Current.{root_of_image}
-use Rattle.block_format.specs.Inode.{pointer_of}
 use Rattle.block_format.specs.declared.inode.Inode.{Inode}
 use Rattle.block_format.specs.declared.inode.Inode.TheVariants.{Unused, File, Directory}
-use Rattle.block_tree.specs.Tree.{Blocks, blocks_in, index_at, nonzero, pointers_below, indexes_below, pairs_below}
+use Rattle.block_tree.specs.Tree.{blocks_in, index_at, nonzero, indexes_below, pairs_below}
 use Rattle.count_pairs.proofs.CountLaws.{counts_are}
 use Rattle.dirty_store.specs.Overlay.{Overlay}
-use Rattle.image_model.specs.Met.{Met, index, page, content, points_at, pointers_to, NoFaults}
+use Rattle.image_model.specs.Met.{Met, index, page, content, pointers_to}
 use Rattle.image_model.specs.Plan.{inode_pointers}
-use Rattle.image_model.specs.Planned.{node_trees, used_from, height_in}
+use Rattle.image_model.specs.Planned.{node_trees, used_from}
 use Rattle.image_model.specs.Seen.{seen}
 use Rattle.image_model.specs.Slots.{inode_of}
 use Rattle.image_model.specs.Stands.{Stands, layout_in}
-use Rattle.image_model.specs.Walk.{is_used, walk, nodes_at}
+use Rattle.image_model.specs.Walk.{is_used, nodes_at}
 use Rattle.image_model.proofs.Area.{no_faults as none_found, points-cons}
 use Rattle.image_model.proofs.NodePlaces.{numbers, AllUsed, nodes_used, numbers_distinct, used_among}
 use Rattle.image_model.proofs.NodeWalk.{walk_good}

@@ -1,5 +1,5 @@
 -- A volume just after a point.
-use Rattle.std.proofs.Common.{◌≡◌, ℕ, ◌<◌, ◌≤◌, ◌+◌, ◌-◌, ◌/◌, Bool, true, false, cond, length, Some, None, inl, refl, arith}
+use Rattle.std.proofs.Common.{◌≡◌, ℕ, ◌<◌, ◌≤◌, ◌+◌, ◌-◌, ◌/◌, Bool, true, false, cond, length, Some, None, inl, inr, refl, arith}
 use Rattle.std.specs.Prelude.{nat_le, Option}
 use Rattle.std.specs.FinMap.{find}
 use Rattle.std.proofs.lemmas.Bool.Decides.{nat_tests}
@@ -40,4 +40,5 @@ at_rest old s cache stands = record {
   kept = kept s (standing_is_mountable old s stands);
   nodes = nodes_at_rest old s stands;
   renewed = λ n. inl refl;
+  cuts = λ n directory. inr refl;
 }

@@ -22,7 +22,7 @@ use Rattle.point_model.specs.Holding.{HoldsMachine, HoldsNumbers, inode_before, 
 use Rattle.point_model.specs.NodeChanges.{IsTableOf}
 use Rattle.point_model.specs.Staging.{IsEffectOn, StagesChange, StagingHolds, TableHoldsTree}
 use Rattle.point_model.proofs.ChangeFollows.{ChangeFollows, change_follows}
-use Rattle.point_model.proofs.StagedNodes.{table_after, kind_after}
+use Rattle.point_model.proofs.StagedNodes.{table_after, kind_after, directory_cut}
 use Rattle.state_laws.specs.Accepted.{IsAccepted}
 use Rattle.state_laws.specs.Files.{PlacesFollow}
 use Rattle.state_laws.specs.States.{IsCoherent, is_held}
@@ -306,6 +306,28 @@ module _ (r : Rules) (old : List Block) (o : Overlay) (m : Machine) (command : C
           let here : node_of (staged o e) n ≡ Some (record { inode = e.inode; cut_to = lower_cut (node_of o e.number) e.cut_to }) = (λ i. node_of (staged o e) (same i)) ∙ own_node o e in
           subst (λ c. (kind_of (staged_or c (inode_before old n)) ≡ kind_of (inode_before old n)) ⊎ (least_cut c ≡ 0)) (sym here) (own same was (kind_after old o before after stages.change e stages.table follows stages.effect))
 
+  cuts_after : (n : ℕ) → kind_of (inode_now old (staged o e) n) ≡ Some true → (least_cut (node_of (staged o e) n) ≡ 0) ⊎ (least_cut (node_of (staged o e) n) ≡ 1048576)
+  cuts_after n = by (nat_eq n e.number) refl (holds.cuts n)
+    where
+      cut_zero : (a : ℕ) → min a 0 ≡ 0
+      cut_zero a = omega arith
+
+      own : n ≡ e.number → (kind_of (inode_now old o n) ≡ Some true → (least_cut (node_of o n) ≡ 0) ⊎ (least_cut (node_of o n) ≡ 1048576)) → (e.cut_to ≡ Some 0) ⊎ ((e.cut_to ≡ None) × (kind_of (inode_now old o e.number) ≡ Some true))
+          → (lower_cut (node_of o e.number) e.cut_to ≡ 0) ⊎ (lower_cut (node_of o e.number) e.cut_to ≡ 1048576)
+      own same was (inl cut) = inl (ap (lower_cut (node_of o e.number)) cut ∙ cut_zero (least_cut (node_of o e.number)))
+      own same was (inr kept) =
+          subst (λ c. (lower_cut (node_of o e.number) c ≡ 0) ⊎ (lower_cut (node_of o e.number) c ≡ 1048576)) (sym kept.0)
+          (subst (λ (k : ℕ). (least_cut (node_of o k) ≡ 0) ⊎ (least_cut (node_of o k) ≡ 1048576)) same (was ((λ i. kind_of (inode_now old o (same i))) ∙ kept.1)))
+
+      by : (t : Bool) → nat_eq n e.number ≡ t → (kind_of (inode_now old o n) ≡ Some true → (least_cut (node_of o n) ≡ 0) ⊎ (least_cut (node_of o n) ≡ 1048576))
+          → kind_of (inode_now old (staged o e) n) ≡ Some true → (least_cut (node_of (staged o e) n) ≡ 0) ⊎ (least_cut (node_of (staged o e) n) ≡ 1048576)
+      by false is was = subst (λ c. kind_of (staged_or c (inode_before old n)) ≡ Some true → (least_cut c ≡ 0) ⊎ (least_cut c ≡ 1048576)) (sym (other_node o e n is)) was
+      by true is was =
+          let same : n ≡ e.number = eqb-true n e.number is in
+          let here : node_of (staged o e) n ≡ Some (record { inode = e.inode; cut_to = lower_cut (node_of o e.number) e.cut_to }) = (λ i. node_of (staged o e) (same i)) ∙ own_node o e in
+          subst (λ c. kind_of (staged_or c (inode_before old n)) ≡ Some true → (least_cut c ≡ 0) ⊎ (least_cut c ≡ 1048576)) (sym here)
+          (λ directory. own same was (directory_cut old o before after stages.change e stages.table follows stages.effect directory))
+
   table : IsTableOf old (staged o e) after
   table = table_after old o before after stages.change e stages.table follows stages.effect
 
@@ -325,6 +347,7 @@ module _ (r : Rules) (old : List Block) (o : Overlay) (m : Machine) (command : C
     kept = kept_after;
     nodes = nodes_after;
     renewed = renewed_after;
+    cuts = cuts_after;
   }
 
 pub staging_holds : StagingHolds

@@ -387,3 +387,20 @@ module _ (old : List Block) (o : Overlay) (before after : Nodes) (change : Chang
       by (Sized number size) is own at = same_kind (ap kind_held (ap (held after) at ∙ own.2) ∙ sym (ap kind_held (ap (held before) at ∙ own.1)))
       by (Renamed number from from_slot to to_slot) is own at =
           same_kind (kept_kind (subst (λ (m : ℕ). NodeFollows (held before m) (held after m) (λ k. has_spot (slots_in change) (m, k))) (sym at) (subst (λ c. NodeFollows (held before number) (held after number) (λ k. has_spot (slots_in c) (number, k))) (sym is) own)))
+
+  -- a directory that is staged is cut to no block, or it was one and isn't cut
+  pub directory_cut : kind_of e.inode ≡ Some true → (e.cut_to ≡ Some 0) ⊎ ((e.cut_to ≡ None) × (kind_of (inode_now old o e.number) ≡ Some true))
+  directory_cut directory = by change refl follows.own effect.number kind_after
+    where
+      one_kind : (a b : Bool) → Some a ≡ Some b → a ≡ b
+      one_kind a b is = cc
+
+      by : (c : Change) → change ≡ c → OwnFollows c before after → e.number ≡ number_of c → (kind_of e.inode ≡ kind_of (inode_now old o e.number)) ⊎ (e.cut_to ≡ Some 0)
+          → (e.cut_to ≡ Some 0) ⊎ ((e.cut_to ≡ None) × (kind_of (inode_now old o e.number) ≡ Some true))
+      by (Made parent slot number) is own at kind = inl (subst (λ c. CutsFor c e.cut_to) is effect.cut)
+      by (Removed parent slot number) is own at kind = inl (subst (λ c. CutsFor c e.cut_to) is effect.cut)
+      by (Sized number size) is own at kind =
+          let file = kind_is e.inode (slots_of (held after e.number)) ∙ ap kind_held effect.node ∙ ap kind_held (ap (held after) at ∙ own.2) in
+          let never : true ≡ false = one_kind true false (sym directory ∙ file) in cc
+      by (Renamed number from from_slot to to_slot) is own at (inr cut) = inl cut
+      by (Renamed number from from_slot to to_slot) is own at (inl same) = inr (subst (λ c. CutsFor c e.cut_to) is effect.cut, sym same ∙ directory)

@@ -4,3 +4,4 @@ pub mod Carries
 pub mod Made
 pub mod Laws
 pub mod Free
+pub mod Planning

@@ -14,5 +14,7 @@ pub struct PointState {
     pub counts: CountTable,
     pub inodes: InodeFile,
     pub directories: HeldList,
+    /// How many blocks of metadata the last point has. It serves the rule that a point may be short, and goes with that rule.
+    pub metadata: u32,
     pub dirty: DirtyStore,
 }
