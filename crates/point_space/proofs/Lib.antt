@@ -6,3 +6,4 @@ pub mod NewMetadata
 pub mod Unstaged
 pub mod RoughNeeds
 pub mod Given
+pub mod PageImages

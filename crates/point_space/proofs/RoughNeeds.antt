@@ -19,14 +19,16 @@ use Rattle.place_words.specs.Index.{index_blocks}
 use Rattle.place_words.proofs.Totals.{different_part, image_to}
 use Rattle.point_model.specs.Holding.{HoldsMachine, inode_now, node_now, as_node, slots_now, slots_left, kind_of}
 use Rattle.point_space.specs.Metadata.{node_metadata}
-use Rattle.point_space.specs.Needs.{RoughNeeds}
+use Rattle.point_space.specs.Needs.{RoughNeeds, ShortWhere}
 use Rattle.point_space.proofs.NewMetadata.{left_has, file_metadata, directory_metadata}
 use Rattle.point_space.proofs.NodeMetas.{span_length}
+use Rattle.point_space.proofs.TreeSums.{some_numbers}
 use Rattle.state_laws.specs.States.{IsCoherent}
 use Rattle.tree_model.specs.declared.node.Content.TheVariants as content
-use Rattle.volume_model.specs.Machine.{Machine, Rules}
+use Rattle.volume_model.specs.Machine.{Machine, Rules, free_of}
 use Rattle.volume_model.specs.Places.{has_spot, spots_of, places_of}
 use Rattle.volume_model.specs.Short.{kept_and_dirty}
+use Rattle.volume_model.specs.Space.{metadata_blocks}
 
 -- ---- leaves
 
@@ -139,3 +141,13 @@ rough_needs r old o m n changes coherent holds dirty = record {
   file = file r old o m n changes coherent holds dirty;
   directory = directory r old o m n changes coherent holds dirty;
 }
+
+-- ---- short points
+
+pub short_where : ShortWhere
+short_where m ns is_tree rising less =
+    let most = some_numbers m.tree (kept_and_dirty m) ns is_tree rising in
+    over (free_of m) (length m.dirty + metadata_blocks m.tree (kept_and_dirty m) + 16) (omega (arith, most, less))
+  where
+    over : (a b : ℕ) → a < b → nat_lt a b ≡ true
+    over a b lt = grind (arith, nat_tests)

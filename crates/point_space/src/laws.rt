@@ -1,6 +1,6 @@
 //! Laws of metadata, number by number.
 ghost use Rattle.point_space.specs.Laws.{DirtyGetBlocks, MetadataIsCounted, NewMetadataIs, OldMetadataIs, SomeNumbers, SumsByNumber, UnstagedMetadataIs};
-ghost use Rattle.point_space.specs.Needs.{InodeBlocksAre, OldInodeBlocksAre, RoughNeeds};
+ghost use Rattle.point_space.specs.Needs.{InodeBlocksAre, OldInodeBlocksAre, PagesMayStand, RoughNeeds, ShortWhere};
 
 use point_model::{at_rest, pages_are_spelled};
 
@@ -63,4 +63,14 @@ pub fn old_inode_blocks_are()
 /// The blocks that planning a number takes at most are few more than its metadata after the point.
 pub fn rough_needs()
     ensures { RoughNeeds }
+{}
+
+/// A point is short where its dirty places and what some numbers have are more than is free.
+pub fn short_where()
+    ensures { ShortWhere }
+{}
+
+/// Pages for blocks that aren't live stand in some image that has the live blocks as they were.
+pub fn pages_may_stand()
+    ensures { PagesMayStand }
 {}
