@@ -7,3 +7,4 @@ pub mod Unstaged
 pub mod RoughNeeds
 pub mod Given
 pub mod PageImages
+pub mod AfterMetadata

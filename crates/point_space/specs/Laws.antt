@@ -21,6 +21,7 @@ use Rattle.volume_model.specs.Places.{Places}
 use Rattle.volume_model.specs.Point.{placed_after, may_be_fresh}
 use Rattle.volume_model.specs.Short.{kept_and_dirty}
 use Rattle.volume_model.specs.Space.{metadata_blocks, inode_blocks}
+use Rattle.volume_model.specs.Whole.{IsWhole}
 
 -- ---- sums
 
@@ -48,6 +49,11 @@ NewMetadataIs = (r : Rules) (old new : List Block) (o : Overlay) (m : Machine) (
 abbrev pub DirtyGetBlocks : Type 0
 DirtyGetBlocks = (r : Rules) (old : List Block) (m : Machine) (fresh : List ℕ) → 0 < r.threshold → Stands old (stored m) → IsCoherent r m → may_be_fresh r m fresh ≡ true
     → DirtyHaveBlocks m (placed_after r m fresh)
+
+-- Which blocks the places get doesn't matter: a point leaves as much metadata as the rule of the short point says.
+abbrev pub AfterMetadataIs : Type 0
+AfterMetadataIs = (r : Rules) (m : Machine) (fresh : List ℕ) → 0 < r.threshold → IsWhole m → may_be_fresh r m fresh ≡ true
+    → metadata_blocks m.tree (placed_after r m fresh) ≡ metadata_blocks m.tree (kept_and_dirty m)
 
 -- ---- before and after
 

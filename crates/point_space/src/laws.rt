@@ -1,5 +1,5 @@
 //! Laws of metadata, number by number.
-ghost use Rattle.point_space.specs.Laws.{DirtyGetBlocks, MetadataIsCounted, NewMetadataIs, OldMetadataIs, SomeNumbers, SumsByNumber, UnstagedMetadataIs};
+ghost use Rattle.point_space.specs.Laws.{AfterMetadataIs, DirtyGetBlocks, MetadataIsCounted, NewMetadataIs, OldMetadataIs, SomeNumbers, SumsByNumber, UnstagedMetadataIs};
 ghost use Rattle.point_space.specs.Needs.{InodeBlocksAre, OldInodeBlocksAre, PagesMayStand, RoughNeeds, ShortWhere};
 
 use point_model::{at_rest, pages_are_spelled};
@@ -46,6 +46,11 @@ pub fn metadata_is_counted()
 /// The blocks that a point gives to dirty places are none with the number 0.
 pub fn dirty_get_blocks()
     ensures { DirtyGetBlocks }
+{}
+
+/// A point leaves as much metadata as the rule of the short point says, whichever blocks the places get.
+pub fn after_metadata_is()
+    ensures { AfterMetadataIs }
 {}
 
 /// Inodes that tell the nodes of now have as many positions as the tree has inode blocks.
