@@ -1,4 +1,4 @@
--- Laws of inode blocks, and of what planning a number takes at most.
+-- Laws of inode blocks, of what planning a number asks for beforehand, and of images that pages make.
 use Rattle.std.specs.Prelude.{◌≡◌, ◌≤◌, ◌<◌, ℕ, ◌+◌, true, false, List, All, length, option_map, Some}
 use Rattle.vol_numbers.specs.declared.block.Block.{Block}
 use Rattle.vol_numbers.specs.declared.runs.Change.{Change}
