@@ -9,3 +9,6 @@ pub mod SameTrees
 pub mod LiveTrees
 pub mod UnstagedLaws
 pub mod HoldsLaws
+pub mod CutLaws
+pub mod LengthLaws
+pub mod PageCounts

@@ -11,11 +11,11 @@ use Rattle.image_model.proofs.NodeWalk.{metas_append}
 use Rattle.place_words.specs.Different.{times}
 use Rattle.point_model.specs.NodePlan.{node_pointers, node_metas, PointersArePlanned}
 
-metas_index : (bs : List ℕ) → metas (map index bs) ≡ bs
+pub metas_index : (bs : List ℕ) → metas (map index bs) ≡ bs
 metas_index [] = refl
 metas_index (b ∷ bs) = ap (λ (l : List ℕ). b ∷ l) (metas_index bs)
 
-metas_content : (n : ℕ) (pairs : List (ℕ × ℕ)) → metas (map (λ (e : ℕ × ℕ). content n e.0 e.1) pairs) ≡ []
+pub metas_content : (n : ℕ) (pairs : List (ℕ × ℕ)) → metas (map (λ (e : ℕ × ℕ). content n e.0 e.1) pairs) ≡ []
 metas_content n [] = refl
 metas_content n (e ∷ es) = metas_content n es
 

@@ -29,7 +29,7 @@ use Rattle.volume_model.specs.Places.{Places}
 use Rattle.node_plan.specs.Directories.{HoldsDirectory}
 use Rattle.node_plan.specs.Pages.{written_pages, width_with, SpellsPage, AreSpelled, AreApart}
 use Rattle.node_plan.specs.Trees.{Carries, EndsAt}
-use Rattle.node_plan.specs.declared.plan.NodePlan.{NodePlan}
+use Rattle.node_plan.specs.declared.plan.TreePlan.{TreePlan}
 use Rattle.node_plan.proofs.DirectoryLaws.{empty_directory_pointers, no_pages, pages_planned}
 use Rattle.node_plan.proofs.SpelledLaws.{pairs_of, spelled_places, spelled_blocks, spelled_some}
 use Rattle.node_plan.proofs.TreeLaws.{AllSome, empty_planned}
@@ -139,11 +139,11 @@ directory_planned old new o m placed n width cut was is left changes pages added
     planned : TreeIsPlanned old new was is (least_cut (node_of o n)) changes
     planned = subst (λ (k : ℕ). TreeIsPlanned old new was is k changes) same tree
 
-pub empty_directory : (tells : Bool) (old : List Block) (o : Overlay) (n width : ℕ) (was : Inode) (left : List Slot) → width ≡ 0 → width ≡ width_with left o n → (IsTrue tells → HoldsDirectory old o n was left)
-    → (r : Result NodePlan TreeFault) → IfOk r (λ p. p.inode ≡ Directory width 0 0) → IfOk r (λ p. (p.pages ≡ []) × (p.added ≡ [])) → IfOk r (λ p. IsTrue tells → p.dropped ≡ node_pointers old was)
-    → IfOk r (λ p. IsTrue tells → (new : List Block) → Carries old new was p.pages → (m : Machine) (placed : Places) → NodeIsPlanned old new o m placed n p.inode p.added p.dropped (page_blocks p.pages))
-empty_directory tells old o n width was left none same holds (Ok p) inode nothing gone = λ told new carries m placed.
-    by (holds told) new m placed (gone told)
+pub empty_directory : (tells : Bool) (old : List Block) (o : Overlay) (n width : ℕ) (was : Inode) (left : List Slot) → width ≡ 0 → width ≡ width_with left o n
+    → (r : Result TreePlan TreeFault) → IfOk r (λ p. p.inode ≡ Directory width 0 0) → IfOk r (λ p. (p.pages ≡ []) × (p.added ≡ [])) → IfOk r (λ p. IsTrue tells → p.dropped ≡ node_pointers old was)
+    → IfOk r (λ p. IsTrue tells → HoldsDirectory old o n was left → (new : List Block) → Carries old new was p.pages → (m : Machine) (placed : Places) → NodeIsPlanned old new o m placed n p.inode p.added p.dropped (page_blocks p.pages))
+empty_directory tells old o n width was left none same (Ok p) inode nothing gone = λ told holds new carries m placed.
+    by holds new m placed (gone told)
   where
     by : HoldsDirectory old o n was left → (new : List Block) (m : Machine) (placed : Places) → p.dropped ≡ node_pointers old was → NodeIsPlanned old new o m placed n p.inode p.added p.dropped (page_blocks p.pages)
     by held new m placed dropped =
@@ -157,4 +157,4 @@ empty_directory tells old o n width was left none same holds (Ok p) inode nothin
         tree : TreeIsPlanned old new was (Directory width 0 0) (least_cut (node_of o n)) []
         tree = empty_planned old new was (Directory width 0 0) (least_cut (node_of o n)) [] refl refl (omega (arith, none)) (All-nil (λ (c : Change). c.place < blocks_of (256 * width)))
             (subst (λ (w : ℕ). EndsAt old was (least_cut (node_of o n)) (blocks_of (256 * w))) (sym same) held.ends)
-empty_directory tells old o n width was left none same holds (Err e) inode nothing gone = tt
+empty_directory tells old o n width was left none same (Err e) inode nothing gone = tt

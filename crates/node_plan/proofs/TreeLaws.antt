@@ -25,7 +25,7 @@ use Rattle.place_words.specs.Different.{times}
 use Rattle.place_words.specs.Rising.{Rising, AllUnder}
 use Rattle.point_model.specs.NodePlan.{block_of_place, TreeIsPlanned}
 use Rattle.node_plan.specs.Trees.{IsFullTree, EndsAt, Carries}
-use Rattle.node_plan.specs.declared.plan.NodePlan.{NodePlan}
+use Rattle.node_plan.specs.declared.plan.TreePlan.{TreePlan}
 
 -- ---- pairs of a tree
 
@@ -177,12 +177,12 @@ empty_planned old new was is cut changes low none blocks within ends = tree_plan
     full : IsFullTree new is
     full = subst (λ (h : ℕ). IsFull (blocks_in new) (indexes_below (blocks_in new) h (pointer_of is))) (sym low) tt
 
-pub empty_file : (tells : Bool) (old : List Block) (was : Inode) (size cut : ℕ) (changes : List Change) → size ≡ 0 → All (λ (c : Change). c.place < blocks_of size) changes → (IsTrue tells → EndsAt old was cut (blocks_of size))
-    → (r : Result NodePlan TreeFault) → IfOk r (λ p. p.inode ≡ File size 0 0)
-    → IfOk r (λ p. IsTrue tells → IsFullTree old was → (new : List Block) → Carries old new was p.pages → TreeIsPlanned old new was p.inode cut changes)
-empty_file tells old was size cut changes none within ends (Ok p) is =
-    λ told full new carries. subst (λ (x : Inode). TreeIsPlanned old new was x cut changes) (sym is) (empty_planned old new was (File size 0 0) cut changes refl refl (omega (arith, none)) within (ends told))
-empty_file tells old was size cut changes none within ends (Err e) is = tt
+pub empty_file : (tells : Bool) (old : List Block) (was : Inode) (size cut : ℕ) (changes : List Change) → size ≡ 0 → All (λ (c : Change). c.place < blocks_of size) changes
+    → (r : Result TreePlan TreeFault) → IfOk r (λ p. p.inode ≡ File size 0 0)
+    → IfOk r (λ p. IsTrue tells → EndsAt old was cut (blocks_of size) → IsFullTree old was → (new : List Block) → Carries old new was p.pages → TreeIsPlanned old new was p.inode cut changes)
+empty_file tells old was size cut changes none within (Ok p) is =
+    λ told ends full new carries. subst (λ (x : Inode). TreeIsPlanned old new was x cut changes) (sym is) (empty_planned old new was (File size 0 0) cut changes refl refl (omega (arith, none)) within ends)
+empty_file tells old was size cut changes none within (Err e) is = tt
 
 -- ---- what a rewriting gives, by the root of the old tree
 

@@ -23,6 +23,14 @@ IsFullTree image inode = IsFull (blocks_in image) (indexes_below (blocks_in imag
 abbrev pub EndsAt : List Block → Inode → ℕ → ℕ → Type 0
 EndsAt old was cut blocks = (place : ℕ) → place < cut → blocks ≤ place → place < 1048576 → block_of_place old was place ≡ 0
 
+-- whether a tree has a top index
+abbrev pub HasTopIndex : TreeRoot → Type 0
+HasTopIndex root = (root.height ≡ 2) × (0 < root.ptr)
+
+-- the block of the top index of the tree below an inode
+abbrev pub IsTop : Inode → ℕ → Type 0
+IsTop inode b = (height_in inode ≡ 2) × (b ≡ pointer_of inode)
+
 -- The pages stand in the new image, and the index blocks of the old tree are there as they were.
 pub record Carries (old new : List Block) (was : Inode) (pages : List Page) : Type 0 where
   pub stand : Stand pages (blocks_in new)

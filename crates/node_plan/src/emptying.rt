@@ -10,7 +10,7 @@ ghost use Rattle.block_tree.specs.Causes.{HasTreeCause, IsTreeDamage};
 ghost use Rattle.point_model.specs.NodePlan.{TreeIsPlanned, PointersArePlanned, node_pointers};
 ghost use Rattle.node_plan.specs.Trees.{root_of, EndsAt};
 
-use crate::NodePlan;
+use crate::TreePlan;
 use crate::root::root_of;
 use block_format::Inode;
 use block_tree::{TreeFault, pointers};
@@ -24,7 +24,7 @@ pub fn plan_removed<D: Disk>(
     disk: &mut D,
     g: &Geometry,
     was: &Inode,
-) -> Result<NodePlan, TreeFault>
+) -> Result<TreePlan, TreeFault>
     requires volume { (layout_of g.now).blocks ≡ (D.fixed disk.old).size }
     requires was { IsRoot (layout_of g.now) (root_of was.now) }
     ensures unused { IfOk result (λ p. p.inode ≡ Unused) }
@@ -50,7 +50,7 @@ pub(crate) fn without_blocks<D: Disk>(
     g: &Geometry,
     was: &Inode,
     is: Inode,
-) -> Result<NodePlan, TreeFault>
+) -> Result<TreePlan, TreeFault>
     requires volume { (layout_of g.now).blocks ≡ (D.fixed disk.old).size }
     requires was { IsRoot (layout_of g.now) (root_of was.now) }
     ensures inode { IfOk result (λ p. p.inode ≡ is) }
@@ -63,7 +63,7 @@ pub(crate) fn without_blocks<D: Disk>(
     ensures cause { HasTreeCause (D.faults disk.old) (D.faults disk.new) result }
 {
     let dropped = pointers(alloc, disk, g, &root_of(was))?;
-    Ok(NodePlan {
+    Ok(TreePlan {
         inode: is,
         pages: PageList::new(alloc),
         added: PointerList::new(alloc),

@@ -1,10 +1,10 @@
 //! Plans a file.
-ghost use Rattle.std.specs.Prelude.{◌≡◌, ◌<◌, ◌≤◌, ◌+◌, ◌++◌, ℕ, All, length, List, IfOk, OnErr, IsTrue};
+ghost use Rattle.std.specs.Prelude.{◌≡◌, ◌<◌, ◌≤◌, ◌+◌, ◌++◌, ℕ, All, length, List, IfOk, OnErr, IsTrue, false};
 ghost use Rattle.vol_numbers.specs.Geometry.{layout_of};
 ghost use Rattle.vol_numbers.specs.declared.block.Block.{Block};
 ghost use Rattle.vol_numbers.specs.declared.runs.Change.{Change as ChangeOf};
 ghost use Rattle.disk_model.specs.Past.{Adds};
-ghost use Rattle.place_words.specs.Different.{different};
+ghost use Rattle.place_words.specs.Different.{different, is_among};
 ghost use Rattle.block_format.specs.Index.{IsPointer};
 ghost use Rattle.block_format.specs.Inode.{blocks_of, inode_shape, pointer_of};
 ghost use Rattle.block_format.specs.declared.inode.Inode.TheVariants.{File};
@@ -15,12 +15,12 @@ ghost use Rattle.block_tree.specs.Pages.{LeadInto};
 ghost use Rattle.block_tree.specs.Edit.{leaves_of};
 ghost use Rattle.block_tree.specs.Causes.{HasTreeCause, IsTreeDamage};
 ghost use Rattle.image_model.specs.Planned.{height_in};
-ghost use Rattle.point_model.specs.NodePlan.{TreeIsPlanned, PointersArePlanned};
-ghost use Rattle.node_plan.specs.Trees.{root_of, IsFullTree, EndsAt, Carries};
+ghost use Rattle.point_model.specs.NodePlan.{TreeIsPlanned, PointersArePlanned, node_metas};
+ghost use Rattle.node_plan.specs.Trees.{root_of, IsFullTree, EndsAt, Carries, IsTop};
 
-use crate::NodePlan;
+use crate::TreePlan;
 use crate::emptying::without_blocks;
-use crate::root::root_of;
+use crate::root::{cut_within, root_of};
 use block_format::Inode;
 use block_tree::{TreeFault, rewrite};
 use disk_model::Disk;
@@ -40,21 +40,24 @@ pub fn plan_file<D: Disk>(
     cut_to: Fbn,
     changes: &ChangeList,
     free: &mut FreeMap,
-) -> Result<NodePlan, TreeFault>
+) -> Result<TreePlan, TreeFault>
     requires volume { (layout_of g.now).blocks ≡ (D.fixed disk.old).size }
     requires was { IsRoot (layout_of g.now) (root_of was.now) }
     requires size { size ≤ 4294967296 }
     requires changes { All (λ (c : ChangeOf). c.place < blocks_of size) changes.now }
-    requires kept { IsTrue D.tells → EndsAt (D.state disk.old).contents was.now cut_to (blocks_of size) }
     requires free { different (leaves_of changes.now) + 3 ≤ length free.old }
     ensures inode { IfOk result (λ p. p.inode ≡ File size (height_in p.inode) (pointer_of p.inode)) }
     ensures shape { IfOk result (λ p. IsTrue (inode_shape p.inode)) }
-    // In each image in which the pages stand, and the old index blocks as they were, the tree is the old one after the cut and the changes.
-    ensures tree { IfOk result (λ p. IsTrue D.tells → IsFullTree (D.state disk.old).contents was.now → (new : List Block) → Carries (D.state disk.old).contents new was.now p.pages
+    // In each image in which the pages stand, and the old index blocks as they were, the tree is the old one after the cut and the changes, where no place past the size outlives the cut.
+    ensures tree { IfOk result (λ p. IsTrue D.tells → EndsAt (D.state disk.old).contents was.now cut_to (blocks_of size) → IsFullTree (D.state disk.old).contents was.now → (new : List Block) → Carries (D.state disk.old).contents new was.now p.pages
         → TreeIsPlanned (D.state disk.old).contents new was.now p.inode cut_to changes.now) }
     // Its pointers are the old ones with those added and without those dropped, and its metadata is some of the old or a page's.
     ensures pointers { IfOk result (λ p. IsTrue D.tells → (n : ℕ) (new : List Block) → Carries (D.state disk.old).contents new was.now p.pages
         → PointersArePlanned (D.state disk.old).contents new n was.now p.inode p.added p.dropped (page_blocks p.pages)) }
+    // In such an image its metadata is at least the pages.
+    ensures at_most { IfOk result (λ p. IsTrue D.tells → (n : ℕ) (new : List Block) → Carries (D.state disk.old).contents new was.now p.pages → length (page_blocks p.pages) ≤ length (node_metas new n p.inode)) }
+    // A top index is a page's or the old one.
+    ensures top { IfOk result (λ p. IsTrue D.tells → height_in p.inode ≡ 2 → 0 < pointer_of p.inode → is_among (page_blocks p.pages) (pointer_of p.inode) ≡ false → IsTop was.now (pointer_of p.inode)) }
     ensures taken { IfOk result (λ p. page_blocks p.pages ++ free.new ≡ free.old) }
     // Where the changes and the free blocks lead nowhere or into the area, so does the inode.
     ensures begins { IfOk result (λ p. LeadInto (layout_of g.now) changes.now → All (IsPointer (layout_of g.now)) free.old → IsRoot (layout_of g.now) (root_of p.inode)) }
@@ -74,8 +77,9 @@ pub fn plan_file<D: Disk>(
         return without_blocks(alloc, disk, g, was, is);
     }
     let root = root_of(was);
-    let made = rewrite(alloc, disk, g, &root, cut_to, changes, size, free)?;
-    Ok(NodePlan {
+    let cut = cut_within(cut_to, size);
+    let made = rewrite(alloc, disk, g, &root, cut, changes, size, free)?;
+    Ok(TreePlan {
         inode: Inode::File {
             size,
             height: made.root.height,

@@ -14,4 +14,4 @@ pub use directory::plan_directory;
 pub use emptying::plan_removed;
 pub use file::plan_file;
 pub use laws::{directory_holds, unstaged_is_planned};
-pub use plan::NodePlan;
+pub use plan::TreePlan;

@@ -2,9 +2,9 @@
 use block_format::Inode;
 use vol_numbers::{PageList, PointerList};
 
-/// What a point plans of one node: its inode, with the tree that it will have, the blocks that are written, and the pointers that come and that go.
+/// What a point plans of the tree of one node: its inode, with the tree that it will have, the blocks that are written, and the pointers that come and that go.
 #[derive(Drop)]
-pub struct NodePlan {
+pub struct TreePlan {
     pub inode: Inode,
     pub pages: PageList,
     pub added: PointerList,

@@ -1,9 +1,11 @@
 //! Where a node's tree begins.
-ghost use Rattle.std.specs.Prelude.{◌≡◌};
+ghost use Rattle.std.specs.Prelude.{◌≡◌, ◌≤◌, min};
+ghost use Rattle.block_format.specs.Inode.{blocks_of};
 ghost use Rattle.node_plan.specs.Trees.{root_of};
 
-use block_format::Inode;
+use block_format::{Inode, blocks_of};
 use block_tree::TreeRoot;
+use vol_numbers::Fbn;
 
 /// Where the tree below an inode begins.
 pub(crate) fn root_of(inode: &Inode) -> TreeRoot
@@ -14,4 +16,12 @@ pub(crate) fn root_of(inode: &Inode) -> TreeRoot
         Inode::File { height, ptr, .. } => TreeRoot { height, ptr },
         Inode::Directory { height, ptr, .. } => TreeRoot { height, ptr },
     }
+}
+
+/// A cut that leaves no place past a size.
+pub(crate) fn cut_within(cut_to: Fbn, size: u64) -> Fbn
+    requires { size ≤ 4294967296 }
+    ensures { result ≡ min cut_to (blocks_of size) }
+{
+    u64::from(cut_to).min(blocks_of(size)) as Fbn
 }

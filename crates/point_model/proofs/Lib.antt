@@ -8,7 +8,7 @@ mod FileBytes
 mod Nodes
 mod OldPages
 pub mod KeptPages
-mod DirectoriesStand
+pub mod DirectoriesStand
 mod Assembled
 mod Staged
 mod Resting

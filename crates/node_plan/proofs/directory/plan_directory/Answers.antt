@@ -1,61 +1,18 @@
-use Rattle.std.proofs.Common.{◌≡◌, ◌<◌, ◌≤◌, ◌*◌, ℕ, List, true, Some, length, ap, sym, subst, ◌∙◌, arith}
-use Rattle.std.specs.Prelude.{◌⊎◌, All}
+use Rattle.std.proofs.Common.{refl}
 use Rattle.std.specs.Option.{option_copied}
-use Rattle.vol_numbers.specs.Geometry.{layout_of}
-use Rattle.vol_numbers.specs.declared.runs.Change.{Change}
-use Rattle.block_format.specs.Index.{IsPointer}
-use Rattle.block_format.specs.Inode.{blocks_of}
-use Rattle.block_tree.specs.Notes.{page_blocks}
-use Rattle.block_tree.specs.Tree.{blocks_in}
-use Rattle.dir_slots.specs.Pages.{pages_for}
-use Rattle.dirty_store.specs.Overlay.{node_of, least_cut}
-use Rattle.point_model.specs.Holding.{kind_of}
-use Rattle.node_plan.specs.Pages.{slots_or_none, width_with}
-use Rattle.node_plan.specs.Trees.{EndsAt}
-use Rattle.node_plan.proofs.PlannedLaws.{all_front, all_behind, lead_into, directory_planned, empty_directory}
+use Rattle.block_format.specs.declared.inode.Inode.TheVariants.{Directory}
+use Rattle.node_plan.specs.Pages.{slots_or_none}
+use Rattle.node_plan.proofs.PageCounts.{no_top, none_at_most}
+use Rattle.node_plan.proofs.PlannedLaws.{empty_directory}
 use Rattle.node_plan.proofs.directory.plan_directory.Goals as goal
-
-pub plan_pages-requires-clause-changes : goal.plan_pages-requires-clause-changes
-plan_pages-requires-clause-changes g c =
-    subst (λ (w : ℕ). All (λ (x : Change). x.place < blocks_of (256 * w)) c.in_ok-spelled.spelled.changes) (sym c.width_now-width.ensures.is) c.in_ok-spelled.ensures.within
-
-pub plan_pages-requires-clause-kept : goal.plan_pages-requires-clause-kept
-plan_pages-requires-clause-kept g c tells =
-    let old = (g.D.Disk.state c.args.disk.now).contents in
-    subst (λ (k : ℕ). EndsAt old c.args.was.now k (blocks_of (256 * c.width_now-width.result))) (sym c.cut_to-cut_to.ensures)
-    (subst (λ (w : ℕ). EndsAt old c.args.was.now (least_cut (node_of c.args.store.now.overlay c.args.number)) (blocks_of (256 * w))) (sym c.width_now-width.ensures.is) (c.requires.holds tells).ends)
-
-pub plan_pages-requires-clause-free : goal.plan_pages-requires-clause-free
-plan_pages-requires-clause-free g c = omega (arith, c.requires.free, c.in_ok-spelled.ensures.left, ap (λ (l : List ℕ). length l) c.in_ok-rest.ensures)
 
 pub returns-then-width-eq0-clause-planned : goal.returns-then-width-eq0-clause-planned
 returns-then-width-eq0-clause-planned g c =
     empty_directory g.D.Disk.tells (g.D.Disk.state c.args.disk.now).contents c.args.store.now.overlay c.args.number c.width_now-width.result c.args.was.now (slots_or_none (option_copied c.args.left))
-    c.if-width-eq0.true c.width_now-width.ensures.is c.requires.holds c.without_blocks.result c.without_blocks.ensures.inode c.without_blocks.ensures.nothing c.without_blocks.ensures.dropped
+    c.if-width-eq0.true c.width_now-width.ensures.is c.without_blocks.result c.without_blocks.ensures.inode c.without_blocks.ensures.nothing c.without_blocks.ensures.dropped
 
-pub returns-clause-planned : goal.returns-clause-planned
-returns-clause-planned g c tells new carries m placed =
-    let old = (g.D.Disk.state c.args.disk.now).contents in
-    let left = slots_or_none (option_copied c.args.left) in
-    let o = c.args.store.now.overlay in
-    let n = c.args.number in
-    let was = c.args.was.now in
-    let p = c.in_ok-plan.plan in
-    let s = c.in_ok-spelled.spelled in
-    let holds = c.requires.holds tells in
-    let few : pages_for (width_with left o n) ≤ 4096 = omega (arith, c.width_now-width.ensures.is, c.width_now-width.ensures.at_most) in
-    let kind = subst (λ (k : ℕ). (kind_of was ≡ Some true) ⊎ (k ≡ 0)) (sym c.cut_to-cut_to.ensures) holds.renewed in
-    directory_planned old new o m placed n c.width_now-width.result c.cut_to-cut_to.result was p.inode left s.changes s.pages.items p.added p.dropped (page_blocks p.pages)
-    holds few c.cut_to-cut_to.ensures c.in_ok-plan.ensures.inode c.in_ok-spelled.ensures.spelled (c.in_ok-plan.ensures.front (blocks_in new) carries.stand)
-    (c.in_ok-plan.ensures.tree tells holds.full new carries) (c.in_ok-plan.ensures.pointers tells kind n new carries)
+pub returns-then-width-eq0-clause-at_most : goal.returns-then-width-eq0-clause-at_most
+returns-then-width-eq0-clause-at_most g c = none_at_most g.D.Disk.tells (g.D.Disk.state c.args.disk.now).contents c.args.was.now c.without_blocks.result c.without_blocks.ensures.nothing
 
-pub returns-clause-taken : goal.returns-clause-taken
-returns-clause-taken g c = c.in_ok-plan.ensures.taken ∙ c.in_ok-spelled.ensures.taken ∙ c.in_ok-rest.ensures
-
-pub returns-clause-begins : goal.returns-clause-begins
-returns-clause-begins g c all =
-    let layout = layout_of c.args.g.now in
-    let s = c.in_ok-spelled.spelled in
-    let whole = subst (All (IsPointer layout)) (sym (c.in_ok-spelled.ensures.taken ∙ c.in_ok-rest.ensures)) all in
-    let blocks = subst (All (IsPointer layout)) (sym c.in_ok-spelled.ensures.leads) (all_front (IsPointer layout) (page_blocks s.pages.items) _ whole) in
-    c.in_ok-plan.ensures.begins (lead_into layout s.changes blocks) (all_behind (IsPointer layout) (page_blocks s.pages.items) _ whole)
+pub returns-then-width-eq0-clause-top : goal.returns-then-width-eq0-clause-top
+returns-then-width-eq0-clause-top g c = no_top g.D.Disk.tells c.args.was.now (Directory c.width_now-width.result 0 0) refl c.without_blocks.result c.without_blocks.ensures.inode
