@@ -9,3 +9,4 @@ pub mod SameTrees
 pub mod LiveTrees
 pub mod UnstagedLaws
 pub mod HoldsLaws
+pub mod RenewedLaws

@@ -20,13 +20,13 @@ use Rattle.volume_model.specs.Places.{spot_cmp}
 use Rattle.volume_model.proofs.PlacesTold.{tie_is}
 use Rattle.node_plan.specs.Pages.{slot_with, SpellsPage, width_with}
 
-in_list : (at : ℕ → Slot) (first n k : ℕ) → k < n → slot_at (slots_from at first n) k ≡ at (first + k)
+pub in_list : (at : ℕ → Slot) (first n k : ℕ) → k < n → slot_at (slots_from at first n) k ≡ at (first + k)
 unfolding slots_from
 in_list at first zero k lt = absurd (omega (arith, lt))
 in_list at first (suc n) zero lt = let e : first ≡ first + zero = omega arith in ap at e
 in_list at first (suc n) (suc k) lt = let e : (first + 1) + k ≡ first + suc k = omega arith in in_list at (first + 1) n k (omega (arith, lt)) ∙ ap at e
 
-past_list : (at : ℕ → Slot) (first n k : ℕ) → n ≤ k → slot_at (slots_from at first n) k ≡ slots.Unused
+pub past_list : (at : ℕ → Slot) (first n k : ℕ) → n ≤ k → slot_at (slots_from at first n) k ≡ slots.Unused
 unfolding slots_from
 past_list at first zero k le = refl
 past_list at first (suc n) zero le = absurd (omega (arith, le))
@@ -42,14 +42,14 @@ unfolding slots_from
 length_from at first zero = refl
 length_from at first (suc n) = ap suc (length_from at (first + 1) n)
 
-lt_true : (a b : ℕ) → nat_lt a b ≡ true → a < b
+pub lt_true : (a b : ℕ) → nat_lt a b ≡ true → a < b
 lt_true a b is = grind (arith, nat_tests)
 
-lt_false : (a b : ℕ) → nat_lt a b ≡ false → b ≤ a
+pub lt_false : (a b : ℕ) → nat_lt a b ≡ false → b ≤ a
 lt_false a b is = grind (arith, nat_tests)
 
 -- no slot is staged from the width on
-none_past : {T : Type 0} → (es : Entries T) (n k : ℕ) → width_of es n ≤ k → find spot_cmp (n, k) es ≡ None
+pub none_past : {T : Type 0} → (es : Entries T) (n k : ℕ) → width_of es n ≤ k → find spot_cmp (n, k) es ≡ None
 none_past [] n k le = refl
 none_past (e ∷ es) n k le =
     ap (λ (t : Bool). cond t (Some e.1) (find spot_cmp (n, k) es)) (tie_is (n, k) e.0) ∙ by (nat_eq e.0.0 n) (nat_eq e.0.1 k) refl le (none_past es n k)
