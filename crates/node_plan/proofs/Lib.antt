@@ -12,3 +12,4 @@ pub mod HoldsLaws
 pub mod CutLaws
 pub mod LengthLaws
 pub mod PageCounts
+pub mod RenewedLaws

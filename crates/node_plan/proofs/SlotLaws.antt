@@ -26,7 +26,7 @@ in_list at first zero k lt = absurd (omega (arith, lt))
 in_list at first (suc n) zero lt = let e : first ≡ first + zero = omega arith in ap at e
 in_list at first (suc n) (suc k) lt = let e : (first + 1) + k ≡ first + suc k = omega arith in in_list at (first + 1) n k (omega (arith, lt)) ∙ ap at e
 
-past_list : (at : ℕ → Slot) (first n k : ℕ) → n ≤ k → slot_at (slots_from at first n) k ≡ slots.Unused
+pub past_list : (at : ℕ → Slot) (first n k : ℕ) → n ≤ k → slot_at (slots_from at first n) k ≡ slots.Unused
 unfolding slots_from
 past_list at first zero k le = refl
 past_list at first (suc n) zero le = absurd (omega (arith, le))
@@ -42,10 +42,10 @@ unfolding slots_from
 length_from at first zero = refl
 length_from at first (suc n) = ap suc (length_from at (first + 1) n)
 
-lt_true : (a b : ℕ) → nat_lt a b ≡ true → a < b
+pub lt_true : (a b : ℕ) → nat_lt a b ≡ true → a < b
 lt_true a b is = grind (arith, nat_tests)
 
-lt_false : (a b : ℕ) → nat_lt a b ≡ false → b ≤ a
+pub lt_false : (a b : ℕ) → nat_lt a b ≡ false → b ≤ a
 lt_false a b is = grind (arith, nat_tests)
 
 -- no slot is staged from the width on

@@ -2,3 +2,4 @@ pub mod Trees
 pub mod Pages
 pub mod Directories
 pub mod Laws
+pub mod Renewed

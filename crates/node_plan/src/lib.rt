@@ -7,6 +7,7 @@ mod file;
 mod laws;
 mod pages;
 mod plan;
+mod renewed;
 mod root;
 mod spelling;
 
@@ -15,3 +16,4 @@ pub use emptying::plan_removed;
 pub use file::plan_file;
 pub use laws::{directory_holds, unstaged_is_planned};
 pub use plan::TreePlan;
+pub use renewed::renewed_directory;

@@ -35,7 +35,7 @@ pub(crate) fn width_now(left: Option<&Directory>, store: &DirtyStore, number: In
 }
 
 /// How many pages so many slots take.
-fn pages_for(width: u32) -> u32
+pub(crate) fn pages_for(width: u32) -> u32
     requires { width ≤ 65534 }
     ensures { result ≡ pages_for width }
 {

@@ -56,7 +56,12 @@ pub(crate) fn spell_pages(
 }
 
 /// The block of a directory's page: of each slot what is staged, else what is left.
-fn spelled_page(left: Option<&Directory>, store: &DirtyStore, number: InoNo, place: Fbn) -> Block
+pub(crate) fn spelled_page(
+    left: Option<&Directory>,
+    store: &DirtyStore,
+    number: InoNo,
+    place: Fbn,
+) -> Block
     requires fits { SlotsFit store.now.overlay number }
     requires place { place < 4096 }
     ensures { SpellsPage (slots_or_none (option_copied left.entry)) store.now.overlay number place result.bytes }
