@@ -34,7 +34,7 @@ use Rattle.image_walk.specs.Marks.{Says}
 use Rattle.image_walk.specs.declared.walked.Walked.{Walked}
 use Rattle.fs_check.specs.Left.{IsSeen}
 use Rattle.fs_check.specs.Faults.{of_root, of_walk, of_names, of_counts}
-use Rattle.fs_check.specs.Phases.{FindsBy, IsPhase, names_finding, counts_finding}
+use Rattle.fs_check.specs.Phases.{FindsBy, IsPhase, names_finding, counts_finding, rest_finding}
 use Rattle.fs_check.specs.declared.fault.CheckFault.{CheckFault}
 use Rattle.fs_check.specs.declared.fault.CheckFault.TheVariants.{Found, Device, OutOfMemory}
 
@@ -134,11 +134,8 @@ module _ (g : Layout) (s : Seen) where
   pub in_walk : (fault : CheckFault) → FindsBy walking fault → FindsBy (body_finding g s) fault
   in_walk fault by = subst (λ (o : Option Finding). FindsBy o fault) (body_is g s) (first_by walking _ fault by)
 
-  pub in_names : (fault : CheckFault) → walking ≡ None → FindsBy (names_finding g s) fault → FindsBy (body_finding g s) fault
-  in_names fault walk by = subst (λ (o : Option Finding). FindsBy o fault) (body_is g s) (later_by walking _ fault walk (first_by (names_finding g s) _ fault by))
+  pub in_rest : (fault : CheckFault) → walking ≡ None → FindsBy (rest_finding g s) fault → FindsBy (body_finding g s) fault
+  in_rest fault walk by = subst (λ (o : Option Finding). FindsBy o fault) (body_is g s) (later_by walking (rest_finding g s) fault walk by)
 
-  pub in_counts : (fault : CheckFault) → walking ≡ None → names_finding g s ≡ None → FindsBy (counts_finding g s) fault → FindsBy (body_finding g s) fault
-  in_counts fault walk names by = subst (λ (o : Option Finding). FindsBy o fault) (body_is g s) (later_by walking _ fault walk (later_by (names_finding g s) _ fault names by))
-
-  pub in_none : walking ≡ None → names_finding g s ≡ None → counts_finding g s ≡ None → body_finding g s ≡ None
-  in_none walk names counted = sym (body_is g s) ∙ none_two walking _ walk (none_two (names_finding g s) _ names counted)
+  pub in_none : walking ≡ None → rest_finding g s ≡ None → body_finding g s ≡ None
+  in_none walk rest = sym (body_is g s) ∙ none_two walking (rest_finding g s) walk rest

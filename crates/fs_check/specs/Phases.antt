@@ -26,3 +26,7 @@ names_finding g s = mixed_finding s.met 0 g.blocks then tail_finding s then dire
 -- the phases of counts
 abbrev pub counts_finding : Layout → Seen → Option Finding
 counts_finding g s = count_finding s.met s.kept 0 (1024 * count_blocks g) then reserve_finding g s.kept
+
+-- all phases between the walk and the log
+abbrev pub rest_finding : Layout → Seen → Option Finding
+rest_finding g s = names_finding g s then counts_finding g s
