@@ -1,1 +1,4 @@
 pub mod PageLaws
+pub mod ListLaws
+pub mod StandLaws
+pub mod PlanWrites

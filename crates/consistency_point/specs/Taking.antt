@@ -1,19 +1,15 @@
 -- What taking a point does.
-use Rattle.std.specs.Prelude.{◌≡◌, ◌⊎◌, ◌<◌, List, []}
+use Rattle.std.specs.Prelude.{◌≡◌, ◌⊎◌, List, []}
 use Rattle.vol_numbers.specs.declared.block.Block.{Block}
 use Rattle.disk_model.specs.Disk.{State}
 use Rattle.image_model.specs.Stands.{Stands}
+use Rattle.point_plan.specs.Planning.{SharesNothing}
 use Rattle.point_plan.specs.State.{HoldsPoint}
 use Rattle.point_plan.specs.declared.state.PointState.{PointState}
 use Rattle.tree_model.specs.declared.report.Report.{Report}
 use Rattle.volume_model.specs.Machine.{Machine, Rules, stored}
 use Rattle.volume_model.specs.Point.{after_point, fresh_in}
 use Rattle.volume_model.specs.ReportLaws.{IsReport}
-
--- The cache list has no room, so nothing is shared.
-pub record SharesNothing (r : Rules) : Type 0 where
-  pub capacity : r.capacity ≡ 0
-  pub threshold : 0 < r.threshold
 
 -- Disk and memory hold this machine: nothing is unsynced, and the memory holds it over the contents.
 pub record IsHeld (r : Rules) (m : Machine) (s : State) (state : PointState) : Type 0 where

@@ -111,5 +111,3 @@ pub record HoldsMachine (old : List Block) (o : Overlay) (m : Machine) : Type 0 
   pub nodes : HoldsNumbers (node_now old o) m.tree
   -- a number of another kind than at the last point was cut to no block
   pub renewed : (n : ℕ) → (kind_of (inode_now old o n) ≡ kind_of (inode_before old n)) ⊎ (least_cut (node_of o n) ≡ 0)
-  -- a directory was cut to no block, or not at all
-  pub cuts : (n : ℕ) → kind_of (inode_now old o n) ≡ Some true → (least_cut (node_of o n) ≡ 0) ⊎ (least_cut (node_of o n) ≡ 1048576)

@@ -5,3 +5,4 @@ pub mod Made
 pub mod Laws
 pub mod Free
 pub mod Planning
+pub mod Cause

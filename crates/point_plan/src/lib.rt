@@ -2,15 +2,19 @@
 #![tactic(auto)]
 
 mod counting;
+mod fault;
 mod free;
 mod laws;
-mod plan;
+mod planned;
 mod planned_node;
+mod planning;
 mod renewing;
 mod state;
 
+pub use fault::PlanFault;
 pub use free::free_now_is_free;
 pub use laws::made_is_planned;
-pub use plan::Plan;
+pub use planned::Plan;
 pub use planned_node::{PlannedNode, PlannedNodeList};
+pub use planning::plan;
 pub use state::PointState;
