@@ -61,6 +61,16 @@ not_touched (suc n) (suc i) = not_touched n i
 lt_or_le : (a c : ℕ) → (a < c) ⊎ (c ≤ a)
 lt_or_le a c = grind arith
 
+-- the root of a plan with the bits of the written counts is within the rules of a root
+pub grammar_with : (b : RootBody) (h : HomeBits) (homes : List ℕ) (n : ℕ) → HasGeometry (root_of b) → b.homes.bytes ≡ homes → n ≡ count_blocks (layout_of b.geometry)
+    → ((i : ℕ) → n ≤ i → home_bit homes i ≡ 0 → home_bit h.bytes i ≡ 0) → HasGeometry (root_of (record b { homes = h }))
+grammar_with b h homes n grammar same many clear = record {
+  valid = grammar.valid;
+  records_fit = grammar.records_fit;
+  log_fits = grammar.log_fits;
+  homes_fit = λ i lt le. clear i (omega (arith, le, many)) (ap (λ (hs : List ℕ). home_bit hs i) (sym same) ∙ grammar.homes_fit i lt le);
+}
+
 module _ (r : Rules) (m : Machine) (s : State) (state : PointState) (plan : Plan) (w : IsToBeWritten r m s state plan) where
   abbrev old : List Block
   old = s.contents
