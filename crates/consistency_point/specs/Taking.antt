@@ -1,6 +1,10 @@
 -- What taking a point does.
 use Rattle.std.specs.Prelude.{◌≡◌, ◌⊎◌, List, []}
+use Rattle.vol_numbers.specs.Geometry.{layout_of}
+use Rattle.vol_numbers.specs.Layout.{count_blocks}
 use Rattle.vol_numbers.specs.declared.block.Block.{Block}
+use Rattle.block_tree.specs.Tree.{blocks_in}
+use Rattle.count_pairs.specs.Table.{AllStand}
 use Rattle.disk_model.specs.Disk.{State}
 use Rattle.image_model.specs.Stands.{Stands}
 use Rattle.point_plan.specs.Planning.{SharesNothing}
@@ -11,11 +15,13 @@ use Rattle.volume_model.specs.Machine.{Machine, Rules, stored}
 use Rattle.volume_model.specs.Point.{after_point, fresh_in}
 use Rattle.volume_model.specs.ReportLaws.{IsReport}
 
--- Disk and memory hold this machine: nothing is unsynced, and the memory holds it over the contents.
+-- Disk and memory hold this machine: nothing is unsynced, the memory holds it over the contents, and the counts stand block by block in the homes that
+-- the root names.
 pub record IsHeld (r : Rules) (m : Machine) (s : State) (state : PointState) : Type 0 where
   pub shares : SharesNothing r
   pub synced : s.unsynced ≡ []
   pub holds : HoldsPoint r m s.contents state
+  pub counted : AllStand (blocks_in s.contents) state.current.body.homes.bytes (count_blocks (layout_of state.geometry)) state.counts.counts
 
 -- they hold some machine
 abbrev pub HoldsSome : State → PointState → Type 0

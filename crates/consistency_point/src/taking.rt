@@ -7,6 +7,7 @@ ghost use Rattle.disk_model.specs.Disk.{EachImage};
 ghost use Rattle.disk_model.specs.Past.{Adds};
 ghost use Rattle.block_tree.specs.Causes.{IsDamage};
 ghost use Rattle.block_tree.specs.Tree.{blocks_in};
+ghost use Rattle.count_pairs.specs.Table.{AllStand};
 ghost use Rattle.image_model.specs.Findings.{free_in};
 ghost use Rattle.point_plan.specs.Planning.{IsNextRoot, IsPlanWithin, IsPlannedWithin, SharesNothing};
 ghost use Rattle.point_plan.specs.State.{HoldsPoint, IsOfSize};
@@ -88,6 +89,8 @@ fn carry_out<D: Disk>(
     ensures report { IfOk result (λ report. IsTrue D.tells → (r : Rules) (m : Machine) → IsToBeWritten r m (D.state disk.old) state.old plan → IsReport r m report) }
     ensures holds { IfOk result (λ report. IsTrue D.tells → (r : Rules) (m : Machine) → IsToBeWritten r m (D.state disk.old) state.old plan
         → HoldsPoint r (after_point r m (fresh_in report)) (D.state disk.new).contents state.new) }
+    ensures counted { OnOk result (IsTrue D.tells → (r : Rules) (m : Machine) → IsToBeWritten r m (D.state disk.old) state.old plan
+        → AllStand (blocks_in (D.state disk.new).contents) state.new.current.body.homes.bytes (count_blocks (layout_of state.new.geometry)) state.new.counts.counts) }
     ensures synced { OnOk result (IsTrue D.tells → (D.state disk.new).unsynced ≡ []) }
     ensures size { OnOk result (IsOfSize (D.fixed disk.new).size state.new) }
     ensures during { IsTrue D.tells → (r : Rules) (m : Machine) → IsToBeWritten r m (D.state disk.old) state.old plan → Adds (D.past disk.old) (D.past disk.new) (EachImage (StandsThrough r m)) }

@@ -1,0 +1,218 @@
+-- Memory before a plan is written, and after its root was switched to.
+use Rattle.std.proofs.Common.{◌≡◌, ◌∙◌, ◌<◌, ◌≤◌, ◌+◌, ◌*◌, ℕ, false, true, List, length, inl, refl, sym, ap, subst, arith}
+use Rattle.std.specs.Prelude.{replicate, IsErrOf, IsErrAnd, Result, Ok, Err}
+use Rattle.std.proofs.lemmas.List.{length-replicate}
+use Rattle.vol_numbers.specs.Geometry.{layout_of}
+use Rattle.vol_numbers.specs.Layout.{Layout, count_blocks}
+use Rattle.vol_numbers.specs.declared.block.Block.{Block}
+use Rattle.vol_numbers.specs.declared.geometry.Geometry.{Geometry}
+use Rattle.disk_model.specs.Disk.{State, EachImage, is_among}
+use Rattle.block_format.specs.Root.{Root, root_of, HasGeometry}
+use Rattle.block_format.specs.declared.homes.HomeBits.{HomeBits}
+use Rattle.block_format.specs.declared.root.RootBody.{RootBody}
+use Rattle.block_tree.specs.Tree.{Blocks, blocks_in}
+use Rattle.count_pairs.specs.Table.{Table, AllStand, IsKept}
+use Rattle.dirty_store.specs.Overlay.{Overlay, clean}
+use Rattle.dirty_store.specs.Undo.{Store}
+use Rattle.image_model.specs.Findings.{free_in}
+use Rattle.image_model.specs.Seen.{seen}
+use Rattle.image_model.specs.Stands.{Stands, layout_in}
+use Rattle.image_model.proofs.ImageLaws.{kept_stands}
+use Rattle.image_model.proofs.Kept.{image_keeps}
+use Rattle.image_model.proofs.SpaceLaws.{free_seen}
+use Rattle.point_plan.specs.Carries.{Carries}
+use Rattle.point_plan.specs.Planning.{IsNextRoot, IsPlan, IsPlannedWithin, IsSettled, with_free}
+use Rattle.point_plan.specs.State.{HoldsPoint, IsOfSize, IsStagedWithin}
+use Rattle.point_plan.specs.declared.fault.PlanFault.{PlanFault}
+use Rattle.point_plan.specs.declared.fault.PlanFault.TheVariants as plans
+use Rattle.point_plan.specs.declared.planned.Plan.{Plan}
+use Rattle.point_plan.specs.declared.state.PointState.{PointState}
+use Rattle.root_switch.specs.Current.{current_slot, root_of_image}
+use Rattle.root_switch.specs.declared.reading.Current.{Current}
+use Rattle.tree_model.specs.declared.report.Report.{Report}
+use Rattle.volume_model.specs.Machine.{Machine, Rules, Stored, stored, free_of}
+use Rattle.volume_model.specs.Point.{after_point, fresh_in}
+use Rattle.volume_model.specs.ReportLaws.{IsReport}
+use Rattle.volume_model.specs.Space.{free_blocks}
+use Rattle.consistency_point.specs.Cause.{fault_of}
+use Rattle.consistency_point.specs.Taking.{IsHeld, StandsThrough}
+use Rattle.consistency_point.specs.Writing.{HasSwitched, IsToBeWritten}
+use Rattle.consistency_point.specs.declared.fault.PointFault.{PointFault}
+use Rattle.consistency_point.specs.declared.fault.PointFault.TheVariants.{Damaged, Short}
+
+-- ---- faults of a plan
+
+-- a point that is called short, or damaged, was planned so
+pub short_of : {T : Type 0} (r : Result T PointFault) (e : PlanFault) → IsErrAnd r (λ y. y ≡ fault_of e) → (free : ℕ) → IsErrOf r (Short free) → e ≡ plans.Short free
+short_of (Ok v) e a free is = absurd a
+short_of (Err y) e a free is = let inner : y ≡ Short free = cc in by e (sym a ∙ inner)
+  where
+    by : (e : PlanFault) → fault_of e ≡ Short free → e ≡ plans.Short free
+    by plans.ReadFault eq = cc
+    by (plans.Damaged b) eq = cc
+    by plans.OutOfMemory eq = cc
+    by (plans.Short f) eq = cc
+
+pub damaged_of : {T : Type 0} (r : Result T PointFault) (e : PlanFault) → IsErrAnd r (λ y. y ≡ fault_of e) → (b : ℕ) → IsErrOf r (Damaged b) → e ≡ plans.Damaged b
+damaged_of (Ok v) e a b is = absurd a
+damaged_of (Err y) e a b is = let inner : y ≡ Damaged b = cc in by e (sym a ∙ inner)
+  where
+    by : (e : PlanFault) → fault_of e ≡ Damaged b → e ≡ plans.Damaged b
+    by plans.ReadFault eq = cc
+    by (plans.Damaged c) eq = cc
+    by plans.OutOfMemory eq = cc
+    by (plans.Short f) eq = cc
+
+-- ---- before the first write
+
+-- where nothing is unsynced each image stands for what is stored
+pub held_stands : (r : Rules) (m : Machine) (s : State) (state : PointState) → IsHeld r m s state → EachImage (StandsThrough r m) s
+held_stands r m s state held image is =
+    let synced : (k : ℕ) → is_among s.unsynced k ≡ false = λ k. ap (λ (u : List ℕ). is_among u k) held.synced in
+    inl (kept_stands s.contents image (stored m) (image_keeps s image (record { selector = synced 0; root = synced _; live = λ b live. synced b }) is) held.holds.stands)
+
+module _ (r : Rules) (m : Machine) (s : State) (blocks : ℕ) (before after : PointState) (plan : Plan) (size : IsOfSize blocks before)
+    (rest : after ≡ record before { inodes = after.inodes; counts = after.counts; directories = after.directories; metadata = after.metadata })
+    (root : IsNextRoot before after plan) (within : IsPlannedWithin after) (keeps : (read : Blocks) (homes : List ℕ) → IsKept read homes before.counts → IsKept read homes after.counts)
+    (is_plan : IsPlan r m s.contents before after plan) (held : IsHeld r m s before) where
+  geometry_is : after.geometry ≡ before.geometry
+  geometry_is = ap (λ (x : PointState). x.geometry) rest
+
+  current_is : after.current ≡ before.current
+  current_is = ap (λ (x : PointState). x.current) rest
+
+  overlay_is : after.dirty.overlay ≡ before.dirty.overlay
+  overlay_is = ap (λ (x : PointState). x.dirty.overlay) rest
+
+  layout_is : layout_of before.geometry ≡ layout_in s.contents
+  layout_is = ap layout_of (sym size.root) ∙ ap (λ (x : Root). x.layout) held.holds.root
+
+  kept_before : IsKept (blocks_in s.contents) before.current.body.homes.bytes before.counts
+  kept_before = record {
+    each = λ i lt untouched. held.counted.each i (omega (arith, lt, ap length size.untouched, length-replicate (count_blocks (layout_of before.geometry)) false));
+  }
+
+  pub to_be_written : IsToBeWritten r m s after plan
+  to_be_written = record {
+    synced = held.synced;
+    stands = held.holds.stands;
+    planned = record {
+      long = is_plan.long;
+      report = is_plan.report;
+      free = is_plan.free;
+      once = is_plan.once;
+      stands = λ new carries. is_plan.stands new (subst (λ (o : Overlay). Carries s.contents new o plan after.counts.counts) overlay_is carries);
+      holds = λ new settled carries is_settled. is_plan.holds new settled (subst (λ (o : Overlay). Carries s.contents new o plan after.counts.counts) overlay_is carries) is_settled;
+    };
+    slot = ap (λ (x : Current). x.slot) current_is ∙ held.holds.slot;
+    root = ap (λ (x : Current). root_of x.body) current_is ∙ held.holds.root;
+    kept = subst (λ (x : Current). IsKept (blocks_in s.contents) x.body.homes.bytes after.counts) (sym current_is) (keeps (blocks_in s.contents) before.current.body.homes.bytes kept_before);
+    layout = ap layout_of root.geometry ∙ layout_is;
+    many = within.touched ∙ ap (λ (g : Geometry). count_blocks (layout_of g)) geometry_is ∙ ap count_blocks layout_is;
+  }
+
+-- ---- after the switch
+
+-- the blocks of the area with count 0 are those that the formula counts
+free_counted : (image : List Block) (s : Stored) → Stands image s → free_in (layout_in image) (seen image).kept ≡ free_blocks (layout_in image) s.tree s.places
+unfolding seen
+free_counted image s stands =
+    free_seen (blocks_in image) (root_of_image image).inode_index (root_of_image image).homes (count_blocks (layout_in image)) (layout_in image) s stands.sound.pointers stands.sound.directories stands.sound.named stands.sound.counts stands.shows (omega (arith, stands.fits.geometry.valid.area_at_least))
+
+module _ (state written : PointState) (current : Current) (dirty : Store) (plan : Plan)
+    (written_is : written ≡ record state { counts = record { counts = state.counts.counts; touched = replicate (length state.counts.touched) false } })
+    (body_is : current.body ≡ record plan.root { homes = current.body.homes }) (clean_is : dirty.overlay ≡ clean) (root : IsNextRoot state state plan) where
+  abbrev after : PointState
+  after = record {
+    geometry = written.geometry;
+    current = current;
+    counts = written.counts;
+    inodes = written.inodes;
+    directories = written.directories;
+    metadata = written.metadata;
+    dirty = dirty;
+  }
+
+  -- on every disk memory is within the rules
+  module _ (blocks : ℕ) (size : (layout_of state.geometry).blocks ≡ blocks) (slot : current.slot < 2) (grammar : HasGeometry (root_of current.body)) (within : IsPlannedWithin state) where
+    abbrev settled : PointState
+    settled = record {
+      geometry = state.geometry;
+      current = current;
+      counts = record { counts = state.counts.counts; touched = replicate (length state.counts.touched) false };
+      inodes = state.inodes;
+      directories = state.directories;
+      metadata = state.metadata;
+      dirty = dirty;
+    }
+
+    staged : IsStagedWithin settled
+    staged =
+        let is = within.staged dirty clean_is in
+        record { numbers = is.numbers; directories = is.directories; places = is.places; sizes = is.sizes }
+
+    of_size : IsOfSize blocks settled
+    of_size = record {
+      size = size;
+      root = ap (λ (b : RootBody). b.geometry) body_is ∙ root.geometry;
+      slot = slot;
+      grammar = grammar;
+      table = within.table;
+      index = sym root.index ∙ sym (ap (λ (b : RootBody). b.inode_index) body_is);
+      within = within.within;
+      settled = within.settled;
+      counts = within.counts;
+      untouched = ap (λ (n : ℕ). replicate n false) within.touched;
+      staged = staged;
+    }
+
+    pub after_is_of_size : IsOfSize blocks after
+    after_is_of_size = subst (λ (x : PointState). IsOfSize blocks (record {
+      geometry = x.geometry;
+      current = current;
+      counts = x.counts;
+      inodes = x.inodes;
+      directories = x.directories;
+      metadata = x.metadata;
+      dirty = dirty;
+    })) (sym written_is) of_size
+
+  -- where the disk tells, memory holds the machine after the point
+  module _ (r : Rules) (m : Machine) (s u : State) (w : IsToBeWritten r m s state plan) (switched : HasSwitched s state.dirty.overlay plan state.counts.counts current u) where
+    abbrev next : Machine
+    next = after_point r m (fresh_in plan.report)
+
+    is_settled : IsSettled u.contents state after
+    is_settled = record {
+      geometry = ap (λ (x : PointState). x.geometry) written_is;
+      inodes = ap (λ (x : PointState). x.inodes) written_is;
+      directories = ap (λ (x : PointState). x.directories) written_is;
+      counts = ap (λ (x : PointState). x.counts.counts) written_is;
+      metadata = ap (λ (x : PointState). x.metadata) written_is;
+      clean = clean_is;
+      slot = switched.slot;
+      root = switched.root;
+    }
+
+    pub after_holds : HoldsPoint r next u.contents after
+    after_holds = w.planned.holds u.contents after switched.carries is_settled
+
+    layout_after : layout_of after.geometry ≡ layout_in u.contents
+    layout_after = ap layout_of (ap (λ (x : PointState). x.geometry) written_is ∙ sym root.geometry) ∙ sym (ap (λ (x : Root). x.layout) switched.carries.root)
+
+    pub after_counted : AllStand (blocks_in u.contents) current.body.homes.bytes (count_blocks (layout_of after.geometry)) after.counts.counts
+    after_counted = record {
+      each = λ i lt.
+          let stand : AllStand (blocks_in u.contents) current.body.homes.bytes (count_blocks (layout_of plan.root.geometry)) after.counts.counts =
+          subst (λ (cs : List ℕ). AllStand (blocks_in u.contents) current.body.homes.bytes (count_blocks (layout_of plan.root.geometry)) cs) (sym (ap (λ (x : PointState). x.counts.counts) written_is))
+          (subst (λ (hs : List ℕ). AllStand (blocks_in u.contents) hs (count_blocks (layout_of plan.root.geometry)) state.counts.counts) (sym (ap (λ (x : Root). x.homes) switched.root)) switched.carries.counts_stand) in
+          stand.each i (omega (arith, lt, ap (λ (g : Geometry). count_blocks (layout_of g)) (ap (λ (x : PointState). x.geometry) written_is ∙ sym root.geometry)));
+    }
+
+    -- the report has the number of free blocks after the point
+    pub after_reports : (free : ℕ) → free ≡ free_in (layout_of after.geometry) after.counts.counts → IsReport r m (with_free plan.report free)
+    after_reports free is =
+        let stands : Stands u.contents (stored next) = w.planned.stands u.contents switched.carries in
+        let counted : free_in (layout_of after.geometry) after.counts.counts ≡ free_in (layout_in u.contents) (seen u.contents).kept = (λ i. free_in (layout_after i) (after_holds.counts i)) in
+        let same : free ≡ free_of next = is ∙ counted ∙ free_counted u.contents (stored next) stands ∙ ap (λ (g : Layout). free_blocks g next.stored_tree next.stored_places) (sym stands.layout) in
+        subst (λ (n : ℕ). IsReport r m (with_free plan.report n)) (sym same) w.planned.report
