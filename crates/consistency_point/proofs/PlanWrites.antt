@@ -176,11 +176,8 @@ module _ (r : Rules) (m : Machine) (s : State) (state : PointState) (plan : Plan
       }
 
       -- the new bits name homes in which all counts stand
-      module _ (h : HomeBits) (after : Table) (after_is : after ≡ record { counts = state.counts.counts; touched = replicate (length touched) false }) (kept : IsKept (blocks_in t.contents) h.bytes after)
-          (grammar : HasGeometry (root_of (record plan.root { homes = h }))) (reads_back : root_in (root_bytes (root_of (record plan.root { homes = h }))) ≡ root_of (record plan.root { homes = h })) (is_slot : slot < 2) where
-        abbrev body : RootBody
-        body = record plan.root { homes = h }
-
+      module _ (h : HomeBits) (body : RootBody) (body_is : body ≡ record plan.root { homes = h }) (after : Table) (after_is : after ≡ record { counts = state.counts.counts; touched = replicate (length touched) false }) (kept : IsKept (blocks_in t.contents) h.bytes after)
+          (grammar : HasGeometry (root_of (record plan.root { homes = h }))) (reads_back : root_in (root_bytes (root_of body)) ≡ root_of body) (is_slot : slot < 2) where
         counts_at : (i : ℕ) → i < length touched → words (blocks_in t.contents (home_of h.bytes i)) ≡ count_block state.counts.counts i
         counts_at i lt =
             let whole : IsKept (blocks_in t.contents) h.bytes (record { counts = state.counts.counts; touched = replicate (length touched) false }) = subst (IsKept (blocks_in t.contents) h.bytes) after_is kept in
@@ -209,11 +206,14 @@ module _ (r : Rules) (m : Machine) (s : State) (state : PointState) (plan : Plan
           says : root_of_image image ≡ root_of body
           says = ap root_in (ap (λ (o : Option Block). (unwrap_or o zero_block).bytes) has.root) ∙ reads_back
 
+          says_plan : root_of_image image ≡ root_of (record plan.root { homes = h })
+          says_plan = says ∙ ap root_of body_is
+
           written_same : (b : ℕ) → IsOneOf (blocks_written plan) b → blocks_in image b ≡ blocks_in mid.contents b
           written_same b is = bytes b (omega (arith, planned_area b is)) ∙ bytes_kept b second (not_written b is)
 
           counts_stand : AllStand (blocks_in image) (root_of_image image).homes (count_blocks (layout_of plan.root.geometry)) state.counts.counts
-          counts_stand = subst (λ (hs : List ℕ). AllStand (blocks_in image) hs (count_blocks (layout_of plan.root.geometry)) state.counts.counts) (sym (ap (λ (x : Root). x.homes) says)) (record {
+          counts_stand = subst (λ (hs : List ℕ). AllStand (blocks_in image) hs (count_blocks (layout_of plan.root.geometry)) state.counts.counts) (sym (ap (λ (x : Root). x.homes) says_plan)) (record {
             each = λ i lt. ap words (bytes (home_of h.bytes i) (omega arith)) ∙ counts_at i (omega (arith, lt, w.many, ap count_blocks w.layout));
           })
 
@@ -227,10 +227,10 @@ module _ (r : Rules) (m : Machine) (s : State) (state : PointState) (plan : Plan
                 lines = subst (All (LineStands state.dirty.overlay (blocks_in image))) (sym fresh) stands.lines;
                 there = record { slots = omega (arith, long, w.stands.root.slots); shape = ap (λ (o : Option Block). (unwrap_or o zero_block).bytes) has.root ∙ ap root_bytes (sym says) };
                 fits = record {
-                  geometry = subst HasGeometry (sym says) grammar;
-                  size = ap (λ (x : Root). x.layout.blocks) says ∙ ap (λ (x : Layout). x.blocks) w.layout ∙ w.stands.fits.size ∙ sym long;
+                  geometry = subst HasGeometry (sym says_plan) grammar;
+                  size = ap (λ (x : Root). x.layout.blocks) says_plan ∙ ap (λ (x : Layout). x.blocks) w.layout ∙ w.stands.fits.size ∙ sym long;
                 };
-                root = says ∙ ap (λ (hs : List ℕ). record (root_of plan.root) { homes = hs }) (sym (ap (λ (x : Root). x.homes) says));
+                root = says_plan ∙ ap (λ (hs : List ℕ). record (root_of plan.root) { homes = hs }) (sym (ap (λ (x : Root). x.homes) says_plan));
                 counts_stand = counts_stand;
               }
 

@@ -119,36 +119,29 @@ unfolding seen
 free_counted image s stands =
     free_seen (blocks_in image) (root_of_image image).inode_index (root_of_image image).homes (count_blocks (layout_in image)) (layout_in image) s stands.sound.pointers stands.sound.directories stands.sound.named stands.sound.counts stands.shows (omega (arith, stands.fits.geometry.valid.area_at_least))
 
-module _ (state written : PointState) (current : Current) (dirty : Store) (plan : Plan)
+module _ (state written after : PointState) (current : Current) (plan : Plan)
     (written_is : written ≡ record state { counts = record { counts = state.counts.counts; touched = replicate (length state.counts.touched) false } })
-    (body_is : current.body ≡ record plan.root { homes = current.body.homes }) (clean_is : dirty.overlay ≡ clean) (root : IsNextRoot state state plan) where
-  abbrev after : PointState
-  after = record {
-    geometry = written.geometry;
+    (after_is : after ≡ record written { current = current; dirty = after.dirty }) (clean_is : after.dirty.overlay ≡ clean)
+    (body_is : current.body ≡ record plan.root { homes = current.body.homes }) (root : IsNextRoot state state plan) where
+  abbrev settled : PointState
+  settled = record {
+    geometry = state.geometry;
     current = current;
-    counts = written.counts;
-    inodes = written.inodes;
-    directories = written.directories;
-    metadata = written.metadata;
-    dirty = dirty;
+    counts = record { counts = state.counts.counts; touched = replicate (length state.counts.touched) false };
+    inodes = state.inodes;
+    directories = state.directories;
+    metadata = state.metadata;
+    dirty = after.dirty;
   }
+
+  after_settled : after ≡ settled
+  after_settled = after_is ∙ ap (λ (x : PointState). record x { current = current; dirty = after.dirty }) written_is
 
   -- on every disk memory is within the rules
   module _ (blocks : ℕ) (size : (layout_of state.geometry).blocks ≡ blocks) (slot : current.slot < 2) (grammar : HasGeometry (root_of current.body)) (within : IsPlannedWithin state) where
-    abbrev settled : PointState
-    settled = record {
-      geometry = state.geometry;
-      current = current;
-      counts = record { counts = state.counts.counts; touched = replicate (length state.counts.touched) false };
-      inodes = state.inodes;
-      directories = state.directories;
-      metadata = state.metadata;
-      dirty = dirty;
-    }
-
     staged : IsStagedWithin settled
     staged =
-        let is = within.staged dirty clean_is in
+        let is = within.staged after.dirty clean_is in
         record { numbers = is.numbers; directories = is.directories; places = is.places; sizes = is.sizes }
 
     of_size : IsOfSize blocks settled
@@ -167,52 +160,41 @@ module _ (state written : PointState) (current : Current) (dirty : Store) (plan 
     }
 
     pub after_is_of_size : IsOfSize blocks after
-    after_is_of_size = subst (λ (x : PointState). IsOfSize blocks (record {
-      geometry = x.geometry;
-      current = current;
-      counts = x.counts;
-      inodes = x.inodes;
-      directories = x.directories;
-      metadata = x.metadata;
-      dirty = dirty;
-    })) (sym written_is) of_size
+    after_is_of_size = subst (IsOfSize blocks) (sym after_settled) of_size
 
   -- where the disk tells, memory holds the machine after the point
   module _ (r : Rules) (m : Machine) (s u : State) (w : IsToBeWritten r m s state plan) (switched : HasSwitched s state.dirty.overlay plan state.counts.counts current u) where
     abbrev next : Machine
     next = after_point r m (fresh_in plan.report)
 
-    is_settled : IsSettled u.contents state after
-    is_settled = record {
-      geometry = ap (λ (x : PointState). x.geometry) written_is;
-      inodes = ap (λ (x : PointState). x.inodes) written_is;
-      directories = ap (λ (x : PointState). x.directories) written_is;
-      counts = ap (λ (x : PointState). x.counts.counts) written_is;
-      metadata = ap (λ (x : PointState). x.metadata) written_is;
-      clean = clean_is;
-      slot = switched.slot;
-      root = switched.root;
-    }
+    is_settled : IsSettled u.contents state settled
+    is_settled = record { geometry = refl; inodes = refl; directories = refl; counts = refl; metadata = refl; clean = clean_is; slot = switched.slot; root = switched.root }
+
+    holds_settled : HoldsPoint r next u.contents settled
+    holds_settled = w.planned.holds u.contents settled switched.carries is_settled
 
     pub after_holds : HoldsPoint r next u.contents after
-    after_holds = w.planned.holds u.contents after switched.carries is_settled
+    after_holds = subst (HoldsPoint r next u.contents) (sym after_settled) holds_settled
 
-    layout_after : layout_of after.geometry ≡ layout_in u.contents
-    layout_after = ap layout_of (ap (λ (x : PointState). x.geometry) written_is ∙ sym root.geometry) ∙ sym (ap (λ (x : Root). x.layout) switched.carries.root)
-
-    pub after_counted : AllStand (blocks_in u.contents) current.body.homes.bytes (count_blocks (layout_of after.geometry)) after.counts.counts
-    after_counted = record {
+    counted_settled : AllStand (blocks_in u.contents) settled.current.body.homes.bytes (count_blocks (layout_of settled.geometry)) settled.counts.counts
+    counted_settled = record {
       each = λ i lt.
-          let stand : AllStand (blocks_in u.contents) current.body.homes.bytes (count_blocks (layout_of plan.root.geometry)) after.counts.counts =
-          subst (λ (cs : List ℕ). AllStand (blocks_in u.contents) current.body.homes.bytes (count_blocks (layout_of plan.root.geometry)) cs) (sym (ap (λ (x : PointState). x.counts.counts) written_is))
-          (subst (λ (hs : List ℕ). AllStand (blocks_in u.contents) hs (count_blocks (layout_of plan.root.geometry)) state.counts.counts) (sym (ap (λ (x : Root). x.homes) switched.root)) switched.carries.counts_stand) in
-          stand.each i (omega (arith, lt, ap (λ (g : Geometry). count_blocks (layout_of g)) (ap (λ (x : PointState). x.geometry) written_is ∙ sym root.geometry)));
+          let stand : AllStand (blocks_in u.contents) current.body.homes.bytes (count_blocks (layout_of plan.root.geometry)) state.counts.counts =
+          subst (λ (hs : List ℕ). AllStand (blocks_in u.contents) hs (count_blocks (layout_of plan.root.geometry)) state.counts.counts) (sym (ap (λ (x : Root). x.homes) switched.root)) switched.carries.counts_stand in
+          stand.each i (omega (arith, lt, ap (λ (g : Geometry). count_blocks (layout_of g)) root.geometry));
     }
 
+    pub after_counted : AllStand (blocks_in u.contents) after.current.body.homes.bytes (count_blocks (layout_of after.geometry)) after.counts.counts
+    after_counted = subst (λ (x : PointState). AllStand (blocks_in u.contents) x.current.body.homes.bytes (count_blocks (layout_of x.geometry)) x.counts.counts) (sym after_settled) counted_settled
+
+    layout_settled : layout_of state.geometry ≡ layout_in u.contents
+    layout_settled = ap layout_of (sym root.geometry) ∙ sym (ap (λ (x : Root). x.layout) switched.carries.root)
+
     -- the report has the number of free blocks after the point
-    pub after_reports : (free : ℕ) → free ≡ free_in (layout_of after.geometry) after.counts.counts → IsReport r m (with_free plan.report free)
-    after_reports free is =
+    pub after_reports : (report : Report) → report ≡ with_free plan.report (free_in (layout_of after.geometry) after.counts.counts) → IsReport r m report
+    after_reports report is =
         let stands : Stands u.contents (stored next) = w.planned.stands u.contents switched.carries in
-        let counted : free_in (layout_of after.geometry) after.counts.counts ≡ free_in (layout_in u.contents) (seen u.contents).kept = (λ i. free_in (layout_after i) (after_holds.counts i)) in
-        let same : free ≡ free_of next = is ∙ counted ∙ free_counted u.contents (stored next) stands ∙ ap (λ (g : Layout). free_blocks g next.stored_tree next.stored_places) (sym stands.layout) in
-        subst (λ (n : ℕ). IsReport r m (with_free plan.report n)) (sym same) w.planned.report
+        let counted : free_in (layout_of state.geometry) state.counts.counts ≡ free_in (layout_in u.contents) (seen u.contents).kept = (λ i. free_in (layout_settled i) (holds_settled.counts i)) in
+        let same : free_in (layout_of state.geometry) state.counts.counts ≡ free_of next = counted ∙ free_counted u.contents (stored next) stands ∙ ap (λ (g : Layout). free_blocks g next.stored_tree next.stored_places) (sym stands.layout) in
+        let told : report ≡ with_free plan.report (free_of next) = is ∙ ap (λ (x : PointState). with_free plan.report (free_in (layout_of x.geometry) x.counts.counts)) after_settled ∙ ap (with_free plan.report) same in
+        subst (IsReport r m) (sym told) w.planned.report

@@ -12,6 +12,7 @@ ghost use Rattle.consistency_point.specs.Taking.{StandsThrough};
 ghost use Rattle.consistency_point.specs.Writing.{HasSwitched, IsToBeWritten, WritesSome};
 
 use crate::blocks::write_blocks;
+use block_format::{HomeBits, RootBody};
 use disk_model::{Disk, DiskFault};
 use point_plan::{Plan, PointState};
 use root_switch::{Current, commit};
@@ -46,8 +47,14 @@ pub(crate) fn write_plan<D: Disk>(
 {
     write_blocks(disk, &state.dirty, plan)?;
     let homes = state.counts.write_changed(disk, &state.current.body.homes)?;
-    let mut body = plan.root;
-    body.homes = homes;
+    let body = next_root(&plan.root, homes);
     let slot = commit(disk, state.current.slot, &body)?;
     Ok(Current { slot, body })
+}
+
+/// The root that names what was written of the counts.
+fn next_root(root: &RootBody, homes: HomeBits) -> RootBody
+    ensures { result ≡ record root.now { homes = homes } }
+{
+    RootBody { homes, ..*root }
 }

@@ -8,8 +8,9 @@ ghost use Rattle.disk_model.specs.Past.{Adds};
 ghost use Rattle.block_tree.specs.Causes.{IsDamage};
 ghost use Rattle.block_tree.specs.Tree.{blocks_in};
 ghost use Rattle.count_pairs.specs.Table.{AllStand};
+ghost use Rattle.dirty_store.specs.Overlay.{clean};
 ghost use Rattle.image_model.specs.Findings.{free_in};
-ghost use Rattle.point_plan.specs.Planning.{IsNextRoot, IsPlanWithin, IsPlannedWithin, SharesNothing};
+ghost use Rattle.point_plan.specs.Planning.{IsNextRoot, IsPlanWithin, IsPlannedWithin, with_free};
 ghost use Rattle.point_plan.specs.State.{HoldsPoint, IsOfSize};
 ghost use Rattle.volume_model.specs.Machine.{Machine, Rules, free_of};
 ghost use Rattle.volume_model.specs.Point.{after_point, fresh_in};
@@ -26,6 +27,7 @@ use count_pairs::CountTable;
 use dirty_store::DirtyStore;
 use disk_model::{Disk, DiskFault};
 use point_plan::{Plan, PointState, plan};
+use root_switch::Current;
 use std::alloc::Global;
 use tree_model::Report;
 use vol_numbers::Geometry;
@@ -100,11 +102,27 @@ fn carry_out<D: Disk>(
     ensures cause { HasCause (D.faults disk.old) (D.faults disk.new) result }
 {
     let current = write_plan(disk, state, &plan)?;
+    renew(alloc, state, current);
+    let mut report = plan.report;
+    count_free(&mut report, &state.counts, &state.geometry);
+    Ok(report)
+}
+
+/// Memory has this root, and nothing staged.
+fn renew(alloc: Global, state: &mut PointState, current: Current)
+    ensures rest { state.new ≡ record state.old { current = current; dirty = state.new.dirty } }
+    ensures clean { state.new.dirty.overlay ≡ clean }
+{
     state.current = current;
     state.dirty = DirtyStore::new(alloc);
-    let mut report = plan.report;
-    report.free = free_blocks(&state.counts, &state.geometry);
-    Ok(report)
+}
+
+/// The report tells how many blocks are free by these counts.
+fn count_free(report: &mut Report, counts: &CountTable, g: &Geometry)
+    requires { length counts.now.counts ≡ 1024 * count_blocks (layout_of g.now) }
+    ensures { report.new ≡ with_free report.old (free_in (layout_of g.now) counts.now.counts) }
+{
+    report.free = free_blocks(counts, g);
 }
 
 /// How many blocks of the area have the count 0.

@@ -2,6 +2,7 @@ use Rattle.std.proofs.Common.{◌≡◌, ◌<◌, ◌∙◌, ℕ, List, length, 
 use Rattle.std.proofs.lemmas.Result.{on_err_weaker}
 use Rattle.vol_numbers.specs.declared.runs.Page.{Page}
 use Rattle.block_tree.specs.Notes.{page_blocks}
+use Rattle.count_pairs.specs.Writing.{ChangesOnly}
 use Rattle.count_pairs.proofs.ChangeLaws.{changes_then}
 use Rattle.disk_model.proofs.Moments.{adds_then}
 use Rattle.place_words.specs.Different.{is_among}
@@ -37,7 +38,7 @@ loop-node-preserved g c =
     record {
       stand = λ tells distinct. nodes_more nodes i d pages c.loop-node-test.true own distinct (one.changes tells) (c.in_ok-write_pages.ensures.stand tells (node_distinct nodes i d pages c.loop-node-test.true own distinct)) (inv.stand tells distinct);
       changes = λ tells. changes_then (inv.changes tells) (one.changes tells) within;
-      during = λ tells. adds_then (inv.during tells) (one.during tells) (λ s during. changes_then (inv.changes tells) during within);
+      during = λ tells. adds_then {R = ChangesOnly (IsPageOf pages) (g.D.Disk.state c.loop-node.disk)} (inv.during tells) (one.during tells) (λ s during. changes_then (inv.changes tells) during within);
       fixed = one.fixed ∙ inv.fixed;
       given = one.given ∙ inv.given;
       faults = c.in_ok-write_pages.ensures.cause ∙ inv.faults;
