@@ -71,11 +71,7 @@ fn write_nodes<D: Disk>(disk: &mut D, nodes: &[PlannedNode]) -> Result<(), DiskF
 }
 
 /// Writes the staged blocks of all lines.
-fn write_lines<D: Disk>(
-    disk: &mut D,
-    dirty: &DirtyStore,
-    lines: &[Line],
-) -> Result<(), DiskFault>
+fn write_lines<D: Disk>(disk: &mut D, dirty: &DirtyStore, lines: &[Line]) -> Result<(), DiskFault>
     requires within { All (IsLineWithin (D.fixed disk.old).size) lines.now }
     requires few { (D.fixed disk.old).size ≤ 65536 }
     ensures stand { OnOk result (IsTrue D.tells → Distinct (blocks_of_lines lines.now) → All (LineStands dirty.now.overlay (blocks_in (D.state disk.new).contents)) lines.now) }

@@ -21,8 +21,8 @@ ghost use Rattle.consistency_point.specs.Taking.{HoldsSome, IsHeld, StandsThroug
 ghost use Rattle.consistency_point.specs.Writing.{IsToBeWritten, WritesSome};
 ghost use Rattle.consistency_point.specs.declared.fault.PointFault.TheVariants.{Damaged, WriteFault, Short};
 
-use crate::switching::write_plan;
 use crate::PointFault;
+use crate::switching::write_plan;
 use count_pairs::CountTable;
 use dirty_store::DirtyStore;
 use disk_model::{Disk, DiskFault};

@@ -56,7 +56,7 @@ returns-in_err-write_pages-clause-during g c = λ tells.
     let nodes = c.args.nodes.now in
     let pages = c.as_slice.result.now in
     let own : pages ≡ (get_or nodes c.loop-node.node-index c.node-item.result).pages = c.as_slice.ensures ∙ ap (λ (p : PlannedNode). p.pages) c.node-item.is in
-    adds_then (c.loop-node.invariant.during tells) (c.write_pages.ensures.during tells)
+    adds_then {R = ChangesOnly (IsPageOf pages) (g.D.Disk.state c.loop-node.disk)} (c.loop-node.invariant.during tells) (c.write_pages.ensures.during tells)
     (λ s during. changes_then (c.loop-node.invariant.changes tells) during (node_within nodes c.loop-node.node-index c.node-item.result pages c.loop-node-test.true own))
 
 pub returns-clause-stand : goal.returns-clause-stand

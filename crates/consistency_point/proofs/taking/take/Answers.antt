@@ -25,7 +25,7 @@ carry_out-requires-clause-held g c tells =
       r,
       m,
       subst (λ (u : State). IsToBeWritten r m u c.plan.new.state c.in_ok-plan.plan) (sym (c.plan.ensures.same tells))
-    (to_be_written r m (g.D.Disk.state c.args.disk.now) (g.D.Disk.fixed c.args.disk.now).size c.args.state.now c.plan.new.state c.in_ok-plan.plan c.requires.size c.in_ok-plan.ensures.rest c.in_ok-plan.ensures.root c.in_ok-plan.ensures.settled c.in_ok-plan.ensures.kept (c.in_ok-plan.ensures.planned tells r m held.shares held.holds) held),
+          (to_be_written r m (g.D.Disk.state c.args.disk.now) (g.D.Disk.fixed c.args.disk.now).size c.args.state.now c.plan.new.state c.in_ok-plan.plan c.requires.size c.in_ok-plan.ensures.rest c.in_ok-plan.ensures.root c.in_ok-plan.ensures.settled c.in_ok-plan.ensures.kept (c.in_ok-plan.ensures.planned tells r m held.shares held.holds) held),
     )
 
 pub returns-in_err-report-clause-during : goal.returns-in_err-report-clause-during
@@ -50,9 +50,9 @@ returns-clause-taken g c tells r m held = record {
   shares = held.shares;
   synced = c.in_ok-report.ensures.synced tells;
   holds = c.in_ok-report.ensures.holds tells r m (subst (λ (u : State). IsToBeWritten r m u c.plan.new.state c.in_ok-plan.plan) (sym (c.plan.ensures.same tells))
-    (to_be_written r m (g.D.Disk.state c.args.disk.now) (g.D.Disk.fixed c.args.disk.now).size c.args.state.now c.plan.new.state c.in_ok-plan.plan c.requires.size c.in_ok-plan.ensures.rest c.in_ok-plan.ensures.root c.in_ok-plan.ensures.settled c.in_ok-plan.ensures.kept (c.in_ok-plan.ensures.planned tells r m held.shares held.holds) held));
+      (to_be_written r m (g.D.Disk.state c.args.disk.now) (g.D.Disk.fixed c.args.disk.now).size c.args.state.now c.plan.new.state c.in_ok-plan.plan c.requires.size c.in_ok-plan.ensures.rest c.in_ok-plan.ensures.root c.in_ok-plan.ensures.settled c.in_ok-plan.ensures.kept (c.in_ok-plan.ensures.planned tells r m held.shares held.holds) held));
   counted = c.in_ok-report.ensures.counted tells r m (subst (λ (u : State). IsToBeWritten r m u c.plan.new.state c.in_ok-plan.plan) (sym (c.plan.ensures.same tells))
-    (to_be_written r m (g.D.Disk.state c.args.disk.now) (g.D.Disk.fixed c.args.disk.now).size c.args.state.now c.plan.new.state c.in_ok-plan.plan c.requires.size c.in_ok-plan.ensures.rest c.in_ok-plan.ensures.root c.in_ok-plan.ensures.settled c.in_ok-plan.ensures.kept (c.in_ok-plan.ensures.planned tells r m held.shares held.holds) held));
+      (to_be_written r m (g.D.Disk.state c.args.disk.now) (g.D.Disk.fixed c.args.disk.now).size c.args.state.now c.plan.new.state c.in_ok-plan.plan c.requires.size c.in_ok-plan.ensures.rest c.in_ok-plan.ensures.root c.in_ok-plan.ensures.settled c.in_ok-plan.ensures.kept (c.in_ok-plan.ensures.planned tells r m held.shares held.holds) held));
 }
 
 pub returns-clause-during : goal.returns-clause-during
