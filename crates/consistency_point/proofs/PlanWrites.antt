@@ -1,5 +1,5 @@
 -- What the images stand for while a plan is written and its root is switched to.
-use Rattle.std.proofs.Common.{◌≡◌, ◌≢◌, ◌∙◌, ◌⊎◌, ⊎_elim, inl, inr, ◌+◌, ◌-◌, ◌*◌, ◌<◌, ◌≤◌, ℕ, zero, suc, Bool, true, false, List, [], length, get_or, Option, refl, sym, ap, subst, arith}
+use Rattle.std.proofs.Common.{◌≡◌, ◌∙◌, ◌⊎◌, ⊎_elim, inl, inr, ◌+◌, ◌-◌, ◌*◌, ◌<◌, ◌≤◌, ℕ, zero, suc, Bool, true, false, List, length, get_or, Option, refl, sym, ap, subst, arith}
 use Rattle.std.specs.Prelude.{◌%◌, slice_get, slice_index, option_map, unwrap_or, replicate, All}
 use Rattle.std.proofs.lemmas.Bool.Decides.{nat_tests}
 use Rattle.std.proofs.lemmas.List.{length-replicate}
@@ -7,26 +7,23 @@ use Rattle.vol_numbers.specs.Block.{zero_block}
 use Rattle.vol_numbers.specs.Geometry.{layout_of}
 use Rattle.vol_numbers.specs.Layout.{Layout, area_start, count_blocks}
 use Rattle.vol_numbers.specs.declared.block.Block.{Block}
-use Rattle.vol_numbers.specs.declared.runs.Page.{Page}
 use Rattle.disk_model.specs.Disk.{State, IsImage, EachImage, is_among}
 use Rattle.block_format.specs.Homes.{home_bit}
 use Rattle.block_format.specs.Root.{Root, root_of, root_in, root_bytes, HasGeometry}
 use Rattle.block_format.specs.Words.{words}
 use Rattle.block_format.specs.declared.homes.HomeBits.{HomeBits}
 use Rattle.block_format.specs.declared.root.RootBody.{RootBody}
-use Rattle.block_tree.specs.Notes.{Stand, page_blocks}
+use Rattle.block_tree.specs.Notes.{page_blocks}
 use Rattle.block_tree.specs.Tree.{Blocks, blocks_in}
-use Rattle.count_pairs.specs.Homes.{home_of, other_of}
+use Rattle.count_pairs.specs.Homes.{home_of}
 use Rattle.count_pairs.specs.Table.{Table, AllStand, IsKept, count_block, is_touched}
 use Rattle.count_pairs.specs.Writing.{ChangesOnly, IsWritten}
 use Rattle.count_pairs.proofs.BitLaws.{bit_small}
 use Rattle.count_pairs.proofs.ChangeLaws.{bytes_kept, changes_then}
 use Rattle.count_pairs.proofs.CountLaws.{touched_within}
-use Rattle.dirty_store.specs.Overlay.{Overlay}
 use Rattle.image_model.specs.Findings.{is_in_area}
-use Rattle.image_model.specs.Live.{IsLive, KeepsLive, home}
-use Rattle.image_model.specs.Seen.{seen}
-use Rattle.image_model.specs.Stands.{Stands, layout_in}
+use Rattle.image_model.specs.Live.{IsLive, KeepsLive}
+use Rattle.image_model.specs.Stands.{layout_in}
 use Rattle.image_model.proofs.ImageLaws.{kept_stands}
 use Rattle.image_model.proofs.Kept.{bytes_same}
 use Rattle.image_model.proofs.LiveLaws.{not_live}
@@ -35,9 +32,8 @@ use Rattle.point_plan.specs.Planning.{blocks_written, with_free}
 use Rattle.point_plan.specs.declared.planned.Plan.{Plan}
 use Rattle.point_plan.specs.declared.planned_node.PlannedNode.{PlannedNode}
 use Rattle.point_plan.specs.declared.state.PointState.{PointState}
-use Rattle.root_switch.specs.Current.{current_slot, current_root, root_of_image}
+use Rattle.root_switch.specs.Current.{root_of_image}
 use Rattle.root_switch.specs.Switch.{IsCurrent, HasOldRoot, HasNewRoot, OldOrNew, IsSwitched}
-use Rattle.root_switch.specs.declared.reading.Current.{Current}
 use Rattle.root_switch.proofs.SwitchLemmas.{same_root}
 use Rattle.tree_model.specs.declared.report.Line.{Line}
 use Rattle.volume_model.specs.Lines.{fresh_only, line_places}

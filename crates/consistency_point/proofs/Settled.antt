@@ -1,5 +1,5 @@
 -- Memory before a plan is written, and after its root was switched to.
-use Rattle.std.proofs.Common.{◌≡◌, ◌∙◌, ◌<◌, ◌≤◌, ◌+◌, ◌*◌, ℕ, false, true, List, length, inl, refl, sym, ap, subst, arith}
+use Rattle.std.proofs.Common.{◌≡◌, ◌∙◌, ◌<◌, ℕ, false, List, length, inl, refl, sym, ap, subst, arith}
 use Rattle.std.specs.Prelude.{replicate, IsErrOf, IsErrAnd, Result, Ok, Err}
 use Rattle.std.proofs.lemmas.List.{length-replicate}
 use Rattle.vol_numbers.specs.Geometry.{layout_of}
@@ -8,12 +8,10 @@ use Rattle.vol_numbers.specs.declared.block.Block.{Block}
 use Rattle.vol_numbers.specs.declared.geometry.Geometry.{Geometry}
 use Rattle.disk_model.specs.Disk.{State, EachImage, is_among}
 use Rattle.block_format.specs.Root.{Root, root_of, HasGeometry}
-use Rattle.block_format.specs.declared.homes.HomeBits.{HomeBits}
 use Rattle.block_format.specs.declared.root.RootBody.{RootBody}
 use Rattle.block_tree.specs.Tree.{Blocks, blocks_in}
-use Rattle.count_pairs.specs.Table.{Table, AllStand, IsKept}
+use Rattle.count_pairs.specs.Table.{AllStand, IsKept}
 use Rattle.dirty_store.specs.Overlay.{Overlay, clean}
-use Rattle.dirty_store.specs.Undo.{Store}
 use Rattle.image_model.specs.Findings.{free_in}
 use Rattle.image_model.specs.Seen.{seen}
 use Rattle.image_model.specs.Stands.{Stands, layout_in}
@@ -27,7 +25,7 @@ use Rattle.point_plan.specs.declared.fault.PlanFault.{PlanFault}
 use Rattle.point_plan.specs.declared.fault.PlanFault.TheVariants as plans
 use Rattle.point_plan.specs.declared.planned.Plan.{Plan}
 use Rattle.point_plan.specs.declared.state.PointState.{PointState}
-use Rattle.root_switch.specs.Current.{current_slot, root_of_image}
+use Rattle.root_switch.specs.Current.{root_of_image}
 use Rattle.root_switch.specs.declared.reading.Current.{Current}
 use Rattle.tree_model.specs.declared.report.Report.{Report}
 use Rattle.volume_model.specs.Machine.{Machine, Rules, Stored, stored, free_of}

@@ -1,10 +1,8 @@
 -- What stands stays while other blocks are written.
-use Rattle.std.proofs.Common.{◌≡◌, ◌<◌, ◌≤◌, ◌+◌, ℕ, zero, suc, true, List, [], ◌∷◌, ◌++◌, length, map, get_or, refl, sym, ap, subst, ◌∙◌, inl, inr, ⊎_elim, arith}
+use Rattle.std.proofs.Common.{◌≡◌, ◌<◌, ◌≤◌, ◌+◌, ℕ, zero, suc, true, List, [], ◌∷◌, ◌++◌, length, map, get_or, refl, sym, ap, subst, ◌∙◌, ⊎_elim, arith}
 use Rattle.std.specs.Prelude.{◌||◌, nat_eq, All, Bool}
-use Rattle.std.specs.List.{flat_map}
 use Rattle.std.proofs.lemmas.Bool.{cases_eq}
 use Rattle.std.proofs.lemmas.Bool.Decides.{nat_tests}
-use Rattle.vol_numbers.specs.declared.block.Block.{Block}
 use Rattle.vol_numbers.specs.declared.runs.Page.{Page}
 use Rattle.block_tree.specs.Notes.{Stand, page_blocks}
 use Rattle.block_tree.specs.Tree.{blocks_in}
@@ -19,7 +17,7 @@ use Rattle.point_plan.specs.declared.planned.Plan.{Plan}
 use Rattle.point_plan.specs.declared.planned_node.PlannedNode.{PlannedNode}
 use Rattle.tree_model.specs.declared.report.Line.{Line}
 use Rattle.volume_model.specs.Lines.{line_places, lines_places, fresh_only}
-use Rattle.volume_model.specs.Places.{Places, Spot, blocks_of}
+use Rattle.volume_model.specs.Places.{Places, blocks_of}
 use Rattle.consistency_point.specs.Writing.{IsBlockOf, IsOneOf, IsPageOf, PlanStands, blocks_of_lines, blocks_of_nodes}
 use Rattle.consistency_point.proofs.ListLaws.{among_left, among_part, among_right, apart, distinct_left, distinct_part, distinct_right, or_right, parts_apart, same_item}
 use Rattle.consistency_point.proofs.PageLaws.{among_at}

@@ -3,7 +3,6 @@ use Rattle.std.specs.Prelude.{◌≡◌, ◌⊎◌, ◌<◌, ◌+◌, ℕ, Bool,
 use Rattle.std.specs.List.{flat_map}
 use Rattle.vol_numbers.specs.Geometry.{layout_of}
 use Rattle.vol_numbers.specs.Layout.{count_blocks}
-use Rattle.vol_numbers.specs.declared.block.Block.{Block}
 use Rattle.vol_numbers.specs.declared.runs.Page.{Page}
 use Rattle.block_format.specs.Root.{root_of}
 use Rattle.block_tree.specs.Notes.{Stand, page_blocks}

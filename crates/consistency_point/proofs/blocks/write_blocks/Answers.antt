@@ -1,17 +1,16 @@
-use Rattle.std.proofs.Common.{◌≡◌, ◌<◌, ◌∙◌, ◌++◌, ℕ, List, length, get_or, ap, sym, subst, arith}
-use Rattle.std.specs.Prelude.{All, OnOk}
+use Rattle.std.proofs.Common.{◌<◌, ℕ, List, get_or, sym, subst}
+use Rattle.std.specs.Prelude.{All}
 use Rattle.std.proofs.lemmas.Result.{on_ok_weaker}
-use Rattle.vol_numbers.specs.declared.runs.Page.{Page}
 use Rattle.disk_model.specs.Disk.{State}
 use Rattle.disk_model.specs.Media.{Fixed}
 use Rattle.disk_model.proofs.Moments.{adds_then, adds_weaker}
-use Rattle.block_tree.specs.Notes.{Stand, page_blocks}
+use Rattle.block_tree.specs.Notes.{Stand}
 use Rattle.block_tree.specs.Tree.{blocks_in}
 use Rattle.count_pairs.specs.Writing.{ChangesOnly}
 use Rattle.count_pairs.proofs.ChangeLaws.{changes_then}
 use Rattle.place_words.specs.Different.{Distinct}
 use Rattle.point_plan.specs.Carries.{LineStands}
-use Rattle.point_plan.specs.Planning.{IsPlanWithin, blocks_written}
+use Rattle.point_plan.specs.Planning.{blocks_written}
 use Rattle.point_plan.specs.declared.planned.Plan.{Plan}
 use Rattle.point_plan.specs.declared.planned_node.PlannedNode.{PlannedNode}
 use Rattle.tree_model.specs.declared.report.Line.{Line}

@@ -1,4 +1,4 @@
-use Rattle.std.proofs.Common.{◌≡◌, ◌<◌, ◌≤◌, ◌+◌, ◌∙◌, ℕ, List, length, get_or, ap, sym, subst, refl, arith}
+use Rattle.std.proofs.Common.{◌≤◌, ◌+◌, ◌∙◌, ℕ, get_or, sym, subst, refl}
 use Rattle.count_pairs.proofs.ChangeLaws.{changes_then}
 use Rattle.disk_model.proofs.Moments.{adds_then}
 use Rattle.disk_model.specs.Media.{Fixed}

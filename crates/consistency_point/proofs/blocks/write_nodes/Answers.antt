@@ -1,11 +1,7 @@
-use Rattle.std.proofs.Common.{◌≡◌, ◌<◌, ◌∙◌, ℕ, List, length, get_or, ap, sym, subst, arith}
-use Rattle.std.proofs.lemmas.Result.{on_err_weaker}
-use Rattle.vol_numbers.specs.declared.runs.Page.{Page}
-use Rattle.block_tree.specs.Notes.{page_blocks}
+use Rattle.std.proofs.Common.{◌≡◌, ◌<◌, ◌∙◌, ℕ, get_or, ap, sym, subst, arith}
 use Rattle.count_pairs.specs.Writing.{ChangesOnly}
 use Rattle.count_pairs.proofs.ChangeLaws.{changes_then}
 use Rattle.disk_model.proofs.Moments.{adds_then}
-use Rattle.place_words.specs.Different.{is_among}
 use Rattle.point_plan.specs.declared.planned_node.PlannedNode.{PlannedNode}
 use Rattle.consistency_point.specs.Writing.{IsOneOf, IsPageOf, blocks_of_nodes}
 use Rattle.consistency_point.proofs.ListLaws.{all_among}

@@ -1,4 +1,4 @@
-use Rattle.std.proofs.Common.{◌≡◌, ◌<◌, ◌≤◌, ◌+◌, ◌*◌, ◌∙◌, ℕ, length, ap, sym, subst, inl, inr, refl, arith}
+use Rattle.std.proofs.Common.{◌≤◌, ◌+◌, ◌*◌, ◌∙◌, length, ap, sym, subst, inl, arith}
 use Rattle.std.specs.Prelude.{Result, Ok, Err, OnErr}
 use Rattle.block_format.specs.Root.{root_of, HasGeometry}
 use Rattle.block_format.specs.declared.homes.HomeBits.{HomeBits}

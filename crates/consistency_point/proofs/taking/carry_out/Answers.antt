@@ -1,7 +1,6 @@
-use Rattle.std.proofs.Common.{◌≡◌, ◌∙◌, length, sym, ap, subst}
+use Rattle.std.proofs.Common.{◌∙◌, sym, ap, subst}
 use Rattle.disk_model.specs.Media.{Fixed}
 use Rattle.tree_model.specs.declared.report.Report.{Report}
-use Rattle.volume_model.specs.Machine.{Machine}
 use Rattle.volume_model.specs.Point.{after_point, fresh_in}
 use Rattle.point_plan.specs.State.{HoldsPoint}
 use Rattle.consistency_point.proofs.Settled.{after_counted, after_holds, after_is_of_size, after_reports}

@@ -1,4 +1,4 @@
-use Rattle.std.proofs.Common.{◌≡◌, ◌∙◌, Err, ap, sym, subst}
+use Rattle.std.proofs.Common.{Err, ap, sym, subst}
 use Rattle.disk_model.specs.Disk.{State, EachImage}
 use Rattle.disk_model.proofs.Moments.{adds_then, adds_weaker}
 use Rattle.consistency_point.specs.Taking.{StandsThrough}
