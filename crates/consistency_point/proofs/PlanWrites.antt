@@ -28,7 +28,7 @@ use Rattle.image_model.proofs.ImageLaws.{kept_stands}
 use Rattle.image_model.proofs.Kept.{bytes_same}
 use Rattle.image_model.proofs.LiveLaws.{not_live}
 use Rattle.point_plan.specs.Carries.{Carries, LineStands}
-use Rattle.point_plan.specs.Planning.{blocks_written, with_free}
+use Rattle.point_plan.specs.Planning.{blocks_written}
 use Rattle.point_plan.specs.declared.planned.Plan.{Plan}
 use Rattle.point_plan.specs.declared.planned_node.PlannedNode.{PlannedNode}
 use Rattle.point_plan.specs.declared.state.PointState.{PointState}
@@ -37,10 +37,9 @@ use Rattle.root_switch.specs.Switch.{IsCurrent, HasOldRoot, HasNewRoot, OldOrNew
 use Rattle.root_switch.proofs.SwitchLemmas.{same_root}
 use Rattle.tree_model.specs.declared.report.Line.{Line}
 use Rattle.volume_model.specs.Lines.{fresh_only, line_places}
-use Rattle.volume_model.specs.Machine.{Machine, Rules, stored, free_of}
+use Rattle.volume_model.specs.Machine.{Machine, Rules, stored}
 use Rattle.volume_model.specs.Places.{blocks_of}
-use Rattle.volume_model.specs.Point.{after_point, fresh_in}
-use Rattle.consistency_point.specs.Taking.{StandsThrough}
+use Rattle.consistency_point.specs.Taking.{StandsBetween}
 use Rattle.consistency_point.specs.Writing.{HasSwitched, IsOfPoint, IsOneOf, IsToBeWritten, PlanStands}
 use Rattle.consistency_point.proofs.ListLaws.{among_part}
 use Rattle.consistency_point.proofs.PageLaws.{among_at}
@@ -128,7 +127,7 @@ module _ (r : Rules) (m : Machine) (s : State) (state : PointState) (plan : Plan
   }
 
   -- each image stands for what was stored
-  pub still_stands : (is_slot : slot < 2) (t : State) → ChangesOnly (IsOfPoint plan homes touched) s t → EachImage (StandsThrough r m) t
+  pub still_stands : (is_slot : slot < 2) (t : State) → ChangesOnly (IsOfPoint plan homes touched) s t → EachImage (StandsBetween r m plan.report) t
   still_stands is_slot t changes image is = inl (kept_stands old image (stored m) (kept_in is_slot changes image is) w.stands)
 
   pub is_current : (is_slot : slot < 2) (t : State) → ChangesOnly (IsOfPoint plan homes touched) s t → IsCurrent slot t
@@ -231,10 +230,10 @@ module _ (r : Rules) (m : Machine) (s : State) (state : PointState) (plan : Plan
               }
 
         -- each image has the old root, and stands for what was stored, or the new one, and stands for what is stored after the point
-        pub either_stands : (image : List Block) → OldOrNew t slot body image → StandsThrough r m image
+        pub either_stands : (image : List Block) → OldOrNew t slot body image → StandsBetween r m plan.report image
         either_stands image = ⊎_elim
             (λ has. inl (kept_stands old image (stored m) (old_keeps image has) w.stands))
-            (λ has. inr (with_free plan.report (free_of (after_point r m (fresh_in plan.report))), w.planned.report, w.planned.stands image (carries image has)))
+            (λ has. inr (w.planned.stands image (carries image has)))
 
         pub has_switched : (u : State) (other : ℕ) → IsSwitched t slot body u → other ≡ 1 - slot → HasSwitched s state.dirty.overlay plan state.counts.counts (record { slot = other; body = body }) u
         has_switched u other is e =

@@ -1,12 +1,12 @@
 -- Memory before a plan is written, and after its root was switched to.
-use Rattle.std.proofs.Common.{◌≡◌, ◌∙◌, ◌<◌, ℕ, false, List, length, inl, refl, sym, ap, subst, arith}
+use Rattle.std.proofs.Common.{◌≡◌, ◌∙◌, ◌<◌, ℕ, false, List, length, inl, refl, sym, ap, subst, arith, inr, ⊎_elim}
 use Rattle.std.specs.Prelude.{replicate, IsErrOf, IsErrAnd, Result, Ok, Err}
 use Rattle.std.proofs.lemmas.List.{length-replicate}
 use Rattle.vol_numbers.specs.Geometry.{layout_of}
 use Rattle.vol_numbers.specs.Layout.{Layout, count_blocks}
 use Rattle.vol_numbers.specs.declared.block.Block.{Block}
 use Rattle.vol_numbers.specs.declared.geometry.Geometry.{Geometry}
-use Rattle.disk_model.specs.Disk.{State, EachImage, is_among}
+use Rattle.disk_model.specs.Disk.{State, EachImage, IsImage, is_among}
 use Rattle.block_format.specs.Root.{Root, root_of, HasGeometry}
 use Rattle.block_format.specs.declared.root.RootBody.{RootBody}
 use Rattle.block_tree.specs.Tree.{Blocks, blocks_in}
@@ -33,7 +33,7 @@ use Rattle.volume_model.specs.Point.{after_point, fresh_in}
 use Rattle.volume_model.specs.ReportLaws.{IsReport}
 use Rattle.volume_model.specs.Space.{free_blocks}
 use Rattle.consistency_point.specs.Cause.{fault_of}
-use Rattle.consistency_point.specs.Taking.{IsHeld, StandsThrough}
+use Rattle.consistency_point.specs.Taking.{IsHeld, StandsBetween, StandsThrough}
 use Rattle.consistency_point.specs.Writing.{HasSwitched, IsToBeWritten}
 use Rattle.consistency_point.specs.declared.fault.PointFault.{PointFault}
 use Rattle.consistency_point.specs.declared.fault.PointFault.TheVariants.{Damaged, Short}
@@ -63,11 +63,21 @@ damaged_of (Err y) e a b is = let inner : y ≡ Damaged b = cc in by e (sym a �
 
 -- ---- before the first write
 
+-- what stands by one of the points stands by some
+pub through : (r : Rules) (m : Machine) (report : Report) → IsReport r m report → (s : State) → EachImage (StandsBetween r m report) s → EachImage (StandsThrough r m) s
+through r m report is_report s each image is = ⊎_elim (λ stands. inl stands) (λ stands. inr (report, is_report, stands)) (each image is)
+
 -- where nothing is unsynced each image stands for what is stored
-pub held_stands : (r : Rules) (m : Machine) (s : State) (state : PointState) → IsHeld r m s state → EachImage (StandsThrough r m) s
-held_stands r m s state held image is =
+held_image : (r : Rules) (m : Machine) (s : State) (state : PointState) → IsHeld r m s state → (image : List Block) → IsImage s image → Stands image (stored m)
+held_image r m s state held image is =
     let synced : (k : ℕ) → is_among s.unsynced k ≡ false = λ k. ap (λ (u : List ℕ). is_among u k) held.synced in
-    inl (kept_stands s.contents image (stored m) (image_keeps s image (record { selector = synced 0; root = synced _; live = λ b live. synced b }) is) held.holds.stands)
+    kept_stands s.contents image (stored m) (image_keeps s image (record { selector = synced 0; root = synced _; live = λ b live. synced b }) is) held.holds.stands
+
+pub rest_through : (r : Rules) (m : Machine) (s u : State) (state : PointState) → IsHeld r m s state → u ≡ s → EachImage (StandsThrough r m) u
+rest_through r m s u state held same = subst (EachImage (StandsThrough r m)) (sym same) (λ image is. inl (held_image r m s state held image is))
+
+pub rest_between : (r : Rules) (m : Machine) (report : Report) (s u : State) (state : PointState) → IsHeld r m s state → u ≡ s → EachImage (StandsBetween r m report) u
+rest_between r m report s u state held same = subst (EachImage (StandsBetween r m report)) (sym same) (λ image is. inl (held_image r m s state held image is))
 
 module _ (r : Rules) (m : Machine) (s : State) (blocks : ℕ) (before after : PointState) (plan : Plan) (size : IsOfSize blocks before)
     (rest : after ≡ record before { inodes = after.inodes; counts = after.counts; directories = after.directories; metadata = after.metadata })

@@ -5,7 +5,8 @@ use Rattle.vol_numbers.specs.Layout.{count_blocks}
 use Rattle.vol_numbers.specs.declared.block.Block.{Block}
 use Rattle.block_tree.specs.Tree.{blocks_in}
 use Rattle.count_pairs.specs.Table.{AllStand}
-use Rattle.disk_model.specs.Disk.{State}
+use Rattle.disk_model.specs.Disk.{State, EachImage}
+use Rattle.disk_model.specs.Past.{Past, Adds}
 use Rattle.image_model.specs.Stands.{Stands}
 use Rattle.point_plan.specs.Planning.{SharesNothing}
 use Rattle.point_plan.specs.State.{HoldsPoint}
@@ -30,3 +31,15 @@ HoldsSome s state = (r : Rules) × (m : Machine) × IsHeld r m s state
 -- The image stands for what the machine stores, or for what it stores after one of its points.
 abbrev pub StandsThrough : Rules → Machine → List Block → Type 0
 StandsThrough r m image = Stands image (stored m) ⊎ ((report : Report) × IsReport r m report × Stands image (stored (after_point r m (fresh_in report))))
+
+-- The image stands for what the machine stores, or for what it stores after the point of this report.
+abbrev pub StandsBetween : Rules → Machine → Report → List Block → Type 0
+StandsBetween r m report image = Stands image (stored m) ⊎ Stands image (stored (after_point r m (fresh_in report)))
+
+-- One of the machine's points is such that each image of this state, and of each moment between, stands for what was stored, or for what is stored
+-- after it.
+pub record StopsWithin (r : Rules) (m : Machine) (old new : Past) (s : State) : Type 0 where
+  pub report : Report
+  pub is_report : IsReport r m report
+  pub left : EachImage (StandsBetween r m report) s
+  pub during : Adds old new (EachImage (StandsBetween r m report))

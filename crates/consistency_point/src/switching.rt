@@ -8,7 +8,7 @@ ghost use Rattle.disk_model.specs.Past.{Adds};
 ghost use Rattle.block_format.specs.Root.{root_of, HasGeometry};
 ghost use Rattle.point_plan.specs.Planning.{IsPlanWithin};
 ghost use Rattle.volume_model.specs.Machine.{Machine, Rules};
-ghost use Rattle.consistency_point.specs.Taking.{StandsThrough};
+ghost use Rattle.consistency_point.specs.Taking.{StandsBetween};
 ghost use Rattle.consistency_point.specs.Writing.{HasSwitched, IsToBeWritten, WritesSome};
 
 use crate::blocks::write_blocks;
@@ -37,9 +37,9 @@ pub(crate) fn write_plan<D: Disk>(
     ensures root { IfOk result (λ current. current.body ≡ record plan.now.root { homes = current.body.homes }) }
     ensures counts { OnOk result (state.new ≡ record state.old { counts = record { counts = state.old.counts.counts; touched = replicate (length state.old.counts.touched) false } }) }
     ensures switched { IfOk result (λ current. IsTrue D.tells → (r : Rules) (m : Machine) → IsToBeWritten r m (D.state disk.old) state.old plan.now → HasSwitched (D.state disk.old) state.old.dirty.overlay plan.now state.old.counts.counts current (D.state disk.new)) }
-    // At each moment, and in what a failure leaves, each image stands for what was stored, or for what is stored after one of the points.
-    ensures during { IsTrue D.tells → (r : Rules) (m : Machine) → IsToBeWritten r m (D.state disk.old) state.old plan.now → Adds (D.past disk.old) (D.past disk.new) (EachImage (StandsThrough r m)) }
-    ensures left { OnErr result (IsTrue D.tells → (r : Rules) (m : Machine) → IsToBeWritten r m (D.state disk.old) state.old plan.now → EachImage (StandsThrough r m) (D.state disk.new)) }
+    // At each moment, and in what a failure leaves, each image stands for what was stored, or for what is stored after the point.
+    ensures during { IsTrue D.tells → (r : Rules) (m : Machine) → IsToBeWritten r m (D.state disk.old) state.old plan.now → Adds (D.past disk.old) (D.past disk.new) (EachImage (StandsBetween r m plan.now.report)) }
+    ensures left { OnErr result (IsTrue D.tells → (r : Rules) (m : Machine) → IsToBeWritten r m (D.state disk.old) state.old plan.now → EachImage (StandsBetween r m plan.now.report) (D.state disk.new)) }
     ensures unsynced { OnErr result (IsTrue D.tells → (D.state disk.new).unsynced ≢ []) }
     ensures fixed { D.fixed disk.new ≡ D.fixed disk.old }
     ensures given { D.given disk.new ≡ D.given disk.old }

@@ -17,7 +17,7 @@ ghost use Rattle.volume_model.specs.Point.{after_point, fresh_in};
 ghost use Rattle.volume_model.specs.ReportLaws.{IsReport};
 ghost use Rattle.volume_model.specs.Short.{is_short};
 ghost use Rattle.consistency_point.specs.Cause.{HasPointCause, EndsBeforeWrites, HasWritten};
-ghost use Rattle.consistency_point.specs.Taking.{HoldsSome, IsHeld, StandsThrough};
+ghost use Rattle.consistency_point.specs.Taking.{HoldsSome, IsHeld, StandsBetween, StandsThrough, StopsWithin};
 ghost use Rattle.consistency_point.specs.Writing.{IsToBeWritten, WritesSome};
 ghost use Rattle.consistency_point.specs.declared.fault.PointFault.TheVariants.{Damaged, WriteFault, Short};
 
@@ -50,6 +50,9 @@ pub fn take<D: Disk>(
     ensures size { OnOk result (IsOfSize (D.fixed disk.new).size state.new) }
     // At each moment each image stands for what was stored, or for what is stored after one of the points.
     ensures during { IsTrue D.tells → (r : Rules) (m : Machine) → IsHeld r m (D.state disk.old) state.old → Adds (D.past disk.old) (D.past disk.new) (EachImage (StandsThrough r m)) }
+    // That point is one for all images: the one that is answered, and some point where a write fails.
+    ensures between { IfOk result (λ report. IsTrue D.tells → (r : Rules) (m : Machine) → IsHeld r m (D.state disk.old) state.old → Adds (D.past disk.old) (D.past disk.new) (EachImage (StandsBetween r m report))) }
+    ensures stopped { IsErrOf result WriteFault → IsTrue D.tells → (r : Rules) (m : Machine) → IsHeld r m (D.state disk.old) state.old → StopsWithin r m (D.past disk.old) (D.past disk.new) (D.state disk.new) }
     // So does each image of what a failed write leaves, and something is unsynced then.
     ensures left { IsErrOf result WriteFault → IsTrue D.tells → (r : Rules) (m : Machine) → IsHeld r m (D.state disk.old) state.old → EachImage (StandsThrough r m) (D.state disk.new) }
     ensures unsynced { IsErrOf result WriteFault → IsTrue D.tells → (D.state disk.new).unsynced ≢ [] }
@@ -95,8 +98,9 @@ fn carry_out<D: Disk>(
         → AllStand (blocks_in (D.state disk.new).contents) state.new.current.body.homes.bytes (count_blocks (layout_of state.new.geometry)) state.new.counts.counts) }
     ensures synced { OnOk result (IsTrue D.tells → (D.state disk.new).unsynced ≡ []) }
     ensures size { OnOk result (IsOfSize (D.fixed disk.new).size state.new) }
-    ensures during { IsTrue D.tells → (r : Rules) (m : Machine) → IsToBeWritten r m (D.state disk.old) state.old plan → Adds (D.past disk.old) (D.past disk.new) (EachImage (StandsThrough r m)) }
-    ensures left { OnErr result (IsTrue D.tells → (r : Rules) (m : Machine) → IsToBeWritten r m (D.state disk.old) state.old plan → EachImage (StandsThrough r m) (D.state disk.new)) }
+    ensures during { IsTrue D.tells → (r : Rules) (m : Machine) → IsToBeWritten r m (D.state disk.old) state.old plan → Adds (D.past disk.old) (D.past disk.new) (EachImage (StandsBetween r m plan.report)) }
+    ensures same_point { IfOk result (λ report. fresh_in report ≡ fresh_in plan.report) }
+    ensures left { OnErr result (IsTrue D.tells → (r : Rules) (m : Machine) → IsToBeWritten r m (D.state disk.old) state.old plan → EachImage (StandsBetween r m plan.report) (D.state disk.new)) }
     ensures unsynced { OnErr result (IsTrue D.tells → (D.state disk.new).unsynced ≢ []) }
     ensures fixed { D.fixed disk.new ≡ D.fixed disk.old }
     ensures cause { HasCause (D.faults disk.old) (D.faults disk.new) result }
