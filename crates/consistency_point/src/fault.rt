@@ -1,4 +1,5 @@
 //! Why a point isn't taken.
+use disk_model::DiskFault;
 use thiserror::Error;
 use vol_numbers::BlockNo;
 
@@ -15,4 +16,15 @@ pub enum PointFault {
     OutOfMemory,
     #[error("of the {free} free blocks too few are left after the point")]
     Short { free: u32 },
+}
+
+impl From<DiskFault> for PointFault {
+    ghost use Rattle.std.specs.Prelude.{◌≡◌};
+    ghost use Rattle.consistency_point.specs.declared.fault.PointFault.TheVariants.{WriteFault};
+
+    ghost from_gives = { λ _ fault. fault ≡ WriteFault };
+
+    fn from(_: DiskFault) -> PointFault {
+        PointFault::WriteFault
+    }
 }

@@ -4,13 +4,13 @@
 mod counting;
 mod free;
 mod laws;
-mod plan;
+mod planned;
 mod planned_node;
 mod renewing;
 mod state;
 
 pub use free::free_now_is_free;
 pub use laws::made_is_planned;
-pub use plan::Plan;
+pub use planned::Plan;
 pub use planned_node::{PlannedNode, PlannedNodeList};
 pub use state::PointState;

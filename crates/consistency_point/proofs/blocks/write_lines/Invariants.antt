@@ -1,0 +1,19 @@
+use Rattle.std.proofs.Common.{◌≡◌, ◌<◌, ℕ, IsTrue, get_or}
+use Rattle.disk_model.specs.Past.{Adds}
+use Rattle.block_tree.specs.Tree.{blocks_in}
+use Rattle.count_pairs.specs.Writing.{ChangesOnly}
+use Rattle.place_words.specs.Different.{Distinct}
+use Rattle.point_plan.specs.Carries.{LineStands}
+use Rattle.tree_model.specs.declared.report.Line.{Line}
+use Rattle.consistency_point.specs.Writing.{IsOneOf, blocks_of_lines}
+use Rattle.consistency_point.proofs.blocks.write_lines.Given as goal
+
+abbrev pub invariant-loop-line : goal.invariant-loop-line
+invariant-loop-line g l = record {
+  stand : IsTrue g.D.Disk.tells → Distinct (blocks_of_lines l.lines) → (k : ℕ) (d : Line) → k < l.line-index → LineStands l.dirty.overlay (blocks_in (g.D.Disk.state l.disk).contents) (get_or l.lines k d);
+  changes : IsTrue g.D.Disk.tells → ChangesOnly (IsOneOf (blocks_of_lines l.lines)) (g.D.Disk.state l.fn.disk) (g.D.Disk.state l.disk);
+  during : IsTrue g.D.Disk.tells → Adds (g.D.Disk.past l.fn.disk) (g.D.Disk.past l.disk) (ChangesOnly (IsOneOf (blocks_of_lines l.lines)) (g.D.Disk.state l.fn.disk));
+  fixed : g.D.Disk.fixed l.disk ≡ g.D.Disk.fixed l.fn.disk;
+  given : g.D.Disk.given l.disk ≡ g.D.Disk.given l.fn.disk;
+  faults : g.D.Disk.faults l.disk ≡ g.D.Disk.faults l.fn.disk;
+}

@@ -1,0 +1,94 @@
+//! Carries out the plan of a consistency point.
+ghost use Rattle.std.specs.Prelude.{◌≡◌, ◌≢◌, ◌<◌, ◌*◌, ℕ, true, false, [], length, IfOk, OnOk, OnErr, IsErrOf, IsTrue};
+ghost use Rattle.vol_numbers.specs.Cause.{HasCause};
+ghost use Rattle.vol_numbers.specs.Geometry.{layout_of};
+ghost use Rattle.vol_numbers.specs.Layout.{count_blocks};
+ghost use Rattle.disk_model.specs.Disk.{EachImage};
+ghost use Rattle.disk_model.specs.Past.{Adds};
+ghost use Rattle.block_tree.specs.Tree.{blocks_in};
+ghost use Rattle.count_pairs.specs.Table.{AllStand};
+ghost use Rattle.dirty_store.specs.Overlay.{clean};
+ghost use Rattle.image_model.specs.Findings.{free_in};
+ghost use Rattle.point_plan.specs.Planning.{IsNextRoot, IsPlanWithin, IsPlannedWithin, with_free};
+ghost use Rattle.point_plan.specs.State.{HoldsPoint, IsOfSize};
+ghost use Rattle.volume_model.specs.Machine.{Machine, Rules};
+ghost use Rattle.volume_model.specs.Point.{after_point, fresh_in};
+ghost use Rattle.volume_model.specs.ReportLaws.{IsReport};
+ghost use Rattle.consistency_point.specs.Taking.{StandsBetween};
+ghost use Rattle.consistency_point.specs.Writing.{IsToBeWritten, WritesSome};
+
+use crate::switching::write_plan;
+use count_pairs::CountTable;
+use dirty_store::DirtyStore;
+use disk_model::{Disk, DiskFault};
+use point_plan::{Plan, PointState};
+use root_switch::Current;
+use std::alloc::Global;
+use tree_model::Report;
+use vol_numbers::Geometry;
+
+/// Carries out a plan: writes it, switches to its root, and has memory hold what is stored then. It answers the report.
+pub fn carry_out<D: Disk>(
+    alloc: Global,
+    disk: &mut D,
+    state: &mut PointState,
+    plan: Plan,
+) -> Result<Report, DiskFault>
+    requires size { (layout_of state.old.geometry).blocks ≡ (D.fixed disk.old).size }
+    requires slot { state.old.current.slot < 2 }
+    requires within { IsPlanWithin (D.fixed disk.old).size plan }
+    requires root { IsNextRoot state.old state.old plan }
+    requires planned { IsPlannedWithin state.old }
+    requires held { IsTrue D.tells → WritesSome (D.state disk.old) state.old plan }
+
+    ensures report { IfOk result (λ report. IsTrue D.tells → (r : Rules) (m : Machine) → IsToBeWritten r m (D.state disk.old) state.old plan → IsReport r m report) }
+    ensures holds { IfOk result (λ report. IsTrue D.tells → (r : Rules) (m : Machine) → IsToBeWritten r m (D.state disk.old) state.old plan
+        → HoldsPoint r (after_point r m (fresh_in report)) (D.state disk.new).contents state.new) }
+    ensures counted { OnOk result (IsTrue D.tells → (r : Rules) (m : Machine) → IsToBeWritten r m (D.state disk.old) state.old plan
+        → AllStand (blocks_in (D.state disk.new).contents) state.new.current.body.homes.bytes (count_blocks (layout_of state.new.geometry)) state.new.counts.counts) }
+    ensures synced { OnOk result (IsTrue D.tells → (D.state disk.new).unsynced ≡ []) }
+    ensures size { OnOk result (IsOfSize (D.fixed disk.new).size state.new) }
+    ensures during { IsTrue D.tells → (r : Rules) (m : Machine) → IsToBeWritten r m (D.state disk.old) state.old plan → Adds (D.past disk.old) (D.past disk.new) (EachImage (StandsBetween r m plan.report)) }
+    ensures same_point { IfOk result (λ report. fresh_in report ≡ fresh_in plan.report) }
+    ensures left { OnErr result (IsTrue D.tells → (r : Rules) (m : Machine) → IsToBeWritten r m (D.state disk.old) state.old plan → EachImage (StandsBetween r m plan.report) (D.state disk.new)) }
+    ensures unsynced { OnErr result (IsTrue D.tells → (D.state disk.new).unsynced ≢ []) }
+    ensures fixed { D.fixed disk.new ≡ D.fixed disk.old }
+    ensures cause { HasCause (D.faults disk.old) (D.faults disk.new) result }
+{
+    let current = write_plan(disk, state, &plan)?;
+    renew(alloc, state, current);
+    let mut report = plan.report;
+    count_free(&mut report, &state.counts, &state.geometry);
+    Ok(report)
+}
+
+/// Memory has this root, and nothing staged.
+fn renew(alloc: Global, state: &mut PointState, current: Current)
+    ensures rest { state.new ≡ record state.old { current = current; dirty = state.new.dirty } }
+    ensures clean { state.new.dirty.overlay ≡ clean }
+{
+    state.current = current;
+    state.dirty = DirtyStore::new(alloc);
+}
+
+/// The report tells how many blocks are free by these counts.
+fn count_free(report: &mut Report, counts: &CountTable, g: &Geometry)
+    requires { length counts.now.counts ≡ 1024 * count_blocks (layout_of g.now) }
+    ensures { report.new ≡ with_free report.old (free_in (layout_of g.now) counts.now.counts) }
+{
+    report.free = free_blocks(counts, g);
+}
+
+/// How many blocks of the area have the count 0.
+fn free_blocks(counts: &CountTable, g: &Geometry) -> u32
+    requires { length counts.now.counts ≡ 1024 * count_blocks (layout_of g.now) }
+    ensures { result ≡ free_in (layout_of g.now) counts.now.counts }
+{
+    let mut free = 0;
+    for block in g.area_start()..g.blocks() {
+        if counts.get(block) == 0 {
+            free += 1;
+        }
+    }
+    free
+}
