@@ -1,12 +1,12 @@
-mod WalkLaws
+pub mod WalkLaws
 mod NumberLaws
 mod KeptLaws
 mod SlotCounts
 mod CountLaws
-mod RefusalLaws
-mod PieceLaws
+pub mod RefusalLaws
+pub mod PieceLaws
 mod SlotNumbers
-mod ShapeLaws
+pub mod ShapeLaws
 mod MoveLaws
 mod MoveSlots
 mod RenameShapes
@@ -16,9 +16,11 @@ mod SizeLaws
 mod RemoveLaws
 mod RenameTables
 mod DoesLaws
-mod ReadyLaws
+pub mod ReadyLaws
 mod AcceptedLaws
 mod NewLaws
 mod ListLaws
 mod OrderLaws
-mod PlanLaws
+pub mod PlanLaws
+mod PlannedLaws
+pub mod WithinLaws

@@ -1,11 +1,11 @@
 -- What a change says is told before it is done.
-use Rattle.std.proofs.Common.{◌≡◌, ◌≢◌, ◌≤◌, ◌<◌, ℕ, true, false, List, [], ◌∷◌, ◌++◌, length, Some, refl, sym, ap, ◌∙◌, arith}
+use Rattle.std.proofs.Common.{◌≡◌, ◌≢◌, ◌≤◌, ◌<◌, ℕ, true, false, List, [], ◌∷◌, ◌++◌, Some, refl, sym, ap, ◌∙◌, arith}
 use Rattle.std.specs.Prelude.{Ok, nat_eq, nat_lt, min, if◌then◌else◌}
 use Rattle.std.proofs.lemmas.Bool.Decides.{nat_tests}
 use Rattle.block_format.specs.declared.slot.Slot.{Slot}
 use Rattle.dir_slots.specs.Slots.{number_in, slot_of, first_unused, without_slot}
 use Rattle.tree_model.specs.Path.{Path, parent_of}
-use Rattle.node_table.specs.Changes.{LeadsTo, IsMade, IsSized, IsRemoved, IsRenamed, HoldsSlots}
+use Rattle.node_table.specs.Changes.{IsSet, LeadsTo, IsMade, IsSized, IsRemoved, IsRenamed}
 use Rattle.node_table.specs.Held.{Nodes, held, slots_of}
 use Rattle.node_table.specs.Numbers.{IsNext}
 use Rattle.node_table.specs.declared.change.Change.{Change}
@@ -102,6 +102,17 @@ comes_over nodes parent into from_slot first differs is =
     let no : nat_eq into parent ≡ false = grind (arith, nat_tests) in
     is ∙ sym (ap (λ b. if b then min (first_unused (slots_of (held nodes into))) from_slot else first_unused (slots_of (held nodes into))) no)
 
+-- the first unused slot of a directory, once the entry has left
+pub first_between : (nodes between : Nodes) (p i s : ℕ) (name : List ℕ) → slot_of (slots_of (held nodes p)) name ≡ Some s → IsSet nodes p (Some (Directory (without_slot (slots_of (held nodes p)) (Some s)))) between
+    → first_unused (slots_of (held between i)) ≡ comes_into nodes p i s
+first_between nodes between p i s name slot_is is =
+    ap (λ o. first_unused (slots_of o)) (is i)
+    ∙ elim (nat_eq i p) as (λ b. nat_eq i p ≡ b → first_unused (slots_of (if b then Some (Directory (without_slot (slots_of (held nodes p)) (Some s))) else held nodes i)) ≡ (if b then min (first_unused (slots_of (held nodes i))) s else first_unused (slots_of (held nodes i)))) [
+      | true ↦ λ e. let same : i ≡ p = grind (arith, nat_tests) in
+          first_without (slots_of (held nodes p)) name s slot_is ∙ ap (λ k. min (first_unused (slots_of (held nodes k))) s) (sym same)
+      | false ↦ λ e. refl
+    ] refl
+
 pub renamed_said : (nodes : Nodes) (from to : Path) (number parent slot into into_slot : ℕ) (name : List ℕ) → from ≡ parent_of from ++ name ∷ []
     → LeadsTo nodes (parent_of from) parent → LeadsTo nodes (parent_of to) into → slot_of (slots_of (held nodes parent)) name ≡ Some slot → number_in (slots_of (held nodes parent)) name ≡ Some number
     → into_slot ≡ comes_into nodes parent into slot
@@ -112,17 +123,8 @@ renamed_said nodes from to number parent slot into into_slot name from_is leads 
     let names : m.name ≡ name = same_end (parent_of from) m.name name (sym m.from_is ∙ from_is) in
     let slots : s ≡ slot = one_slot (slots_of (held nodes parent)) m.name name s slot names (ap (λ k. slot_of (slots_of (held nodes k)) m.name) (sym parents) ∙ m.entry.left.slot_is) slot_is in
     let numbers : n ≡ number = one_number (slots_of (held nodes parent)) m.name name n number names (ap (λ k. number_in (slots_of (held nodes k)) m.name) (sym parents) ∙ m.entry.left.number_is) number_is in
-    let came : t ≡ comes_into nodes p i s = m.entry.came.first ∙ first_between in
+    let came : t ≡ comes_into nodes p i s = m.entry.came.first ∙ first_between nodes m.entry.between p i s m.name m.entry.left.slot_is m.entry.left.set in
     let into_slots : t ≡ into_slot = came ∙ ap (λ k. comes_into nodes k i s) parents ∙ ap (λ k. comes_into nodes parent k s) intos ∙ ap (comes_into nodes parent into) slots ∙ sym comes in cc
-  where
-    first_between : first_unused (slots_of (held m.entry.between i)) ≡ comes_into nodes p i s
-    first_between =
-        ap (λ o. first_unused (slots_of o)) (m.entry.left.set i)
-        ∙ elim (nat_eq i p) as (λ b. nat_eq i p ≡ b → first_unused (slots_of (if b then Some (Directory (without_slot (slots_of (held nodes p)) (Some s))) else held nodes i)) ≡ (if b then min (first_unused (slots_of (held nodes i))) s else first_unused (slots_of (held nodes i)))) [
-          | true ↦ λ e. let same : i ≡ p = grind (arith, nat_tests) in
-              first_without (slots_of (held nodes p)) m.name s m.entry.left.slot_is ∙ ap (λ k. min (first_unused (slots_of (held nodes k))) s) (sym same)
-          | false ↦ λ e. refl
-        ] refl
 renamed_said nodes from to number parent slot into into_slot name from_is leads into_leads slot_is number_is comes (Made p s n) new m = absurd m
 renamed_said nodes from to number parent slot into into_slot name from_is leads into_leads slot_is number_is comes (Sized n size) new m = absurd m
 renamed_said nodes from to number parent slot into into_slot name from_is leads into_leads slot_is number_is comes (Removed p s n) new m = absurd m

@@ -4,7 +4,7 @@ use Rattle.std.specs.Prelude.{Option, Result, Ok, Err, is_some, nat_eq, nat_lt, 
 use Rattle.std.specs.Option.{option_map}
 use Rattle.std.specs.Result.{result_err}
 use Rattle.block_format.specs.declared.slot.Slot.{Slot}
-use Rattle.dir_slots.specs.Slots.{IsDirectory, number_in}
+use Rattle.dir_slots.specs.Slots.{number_in}
 use Rattle.tree_model.specs.Path.{Path, is_root, parent_of, strip}
 use Rattle.tree_model.specs.Shape.{IsTree}
 use Rattle.tree_model.specs.Step.{◌>>=◌, or_refuse, refuse_if, walk, bytes_of, has_entries, make, remove, rename, write, written_tree, truncate, read, layout, list, stat, size_of}

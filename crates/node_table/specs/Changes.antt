@@ -1,5 +1,5 @@
 -- What a change does to the nodes, as numbers and slots.
-use Rattle.std.specs.Prelude.{◌≡◌, ℕ, ◌+◌, max, if◌then◌else◌, List, [], ◌∷◌, ◌++◌, length, nat_eq, Option, Some, None, Ok}
+use Rattle.std.specs.Prelude.{◌≡◌, ◌<◌, ◌≤◌, ℕ, ◌+◌, max, if◌then◌else◌, List, [], ◌∷◌, ◌++◌, length, nat_eq, Option, Some, None, Ok}
 use Rattle.block_format.specs.declared.slot.Slot.TheVariants.{Entry}
 use Rattle.dir_slots.specs.Slots.{first_unused, slot_of, number_in, with_slot, without_slot}
 use Rattle.tree_model.specs.Path.{Path, parent_of}
@@ -113,3 +113,16 @@ Does (Truncate path size) change old new = IsSized path (λ _. size) change old 
 Does (Remove path) change old new = IsRemoved path change old new
 Does (Rename from to) change old new = IsRenamed from to change old new
 Does command change old new = ⊥
+
+-- ---- what holds of it on every disk
+
+-- the number of a node
+abbrev pub IsNumber : ℕ → Type 0
+IsNumber n = (1 ≤ n) × (n ≤ 65535)
+
+-- Numbers are from 1 to 65,535, slots are below 65,534, and a size is at most 4,294,967,296.
+abbrev pub IsChangeWithin : Change → Type 0
+IsChangeWithin (Made parent slot number) = IsNumber parent × (slot < 65534) × IsNumber number
+IsChangeWithin (Sized number size) = IsNumber number × (size ≤ 4294967296)
+IsChangeWithin (Removed parent slot number) = IsNumber parent × (slot < 65534) × IsNumber number
+IsChangeWithin (Renamed number from from_slot to to_slot) = IsNumber number × IsNumber from × (from_slot < 65534) × IsNumber to × (to_slot < 65534)

@@ -4,7 +4,7 @@ ghost use Rattle.dir_slots.specs.Slots.{first_unused, slot_of};
 ghost use Rattle.tree_model.specs.Step.{is_change};
 ghost use Rattle.tree_model.specs.declared.command.Command.TheVariants.{Create, Write, Truncate, Remove, Rename};
 ghost use Rattle.node_table.specs.Accepted.{IsAccepted};
-ghost use Rattle.node_table.specs.Changes.{Does, HoldsSlots, IsMade, IsSized, IsRemoved, IsRenamed};
+ghost use Rattle.node_table.specs.Changes.{Does, HoldsSlots, IsChangeWithin, IsMade, IsSized, IsRemoved, IsRenamed};
 ghost use Rattle.node_table.specs.Held.{Nodes, held, slots_of};
 ghost use Rattle.node_table.specs.declared.change.Change.{Change};
 ghost use Rattle.node_table.specs.declared.held.HeldNode.{HeldNode};
@@ -22,7 +22,10 @@ impl NodeTable {
     pub fn plan(&self, command: &Command) -> Change
         requires change { IsTrue (is_change command.now) }
         requires accepted { IsAccepted self.now command.now }
-        ensures { (change : Change) (new : Nodes) → Does command.now change self.now new → change ≡ result }
+        ensures said { (change : Change) (new : Nodes) → Does command.now change self.now new → change ≡ result }
+        // Some table comes of it.
+        ensures done { (new : Nodes) × Does command.now result self.now new }
+        ensures within { IsChangeWithin result }
     {
         match command {
             Command::Mkdir { path } => self.plan_make(path),
@@ -41,7 +44,9 @@ impl NodeTable {
 
     fn plan_make(&self, path: &Path) -> Change
         requires { IsAccepted self.now (Create path.now) }
-        ensures { (fresh : HeldNode) (change : Change) (new : Nodes) → IsMade path.now fresh change self.now new → change ≡ result }
+        ensures said { (fresh : HeldNode) (change : Change) (new : Nodes) → IsMade path.now fresh change self.now new → change ≡ result }
+        ensures done { (fresh : HeldNode) → (new : Nodes) × IsMade path.now fresh result self.now new }
+        ensures within { IsChangeWithin result }
     {
         let _ = &self.nodes;
         let Ok(parent) = self.may_make(path) else {
@@ -61,7 +66,9 @@ impl NodeTable {
 
     fn plan_write(&self, path: &Path, offset: u64, bytes: &[u8]) -> Change
         requires { IsAccepted self.now (Write path.now offset bytes.now) }
-        ensures { (change : Change) (new : Nodes) → IsSized path.now (λ before. max before (offset + length bytes.now)) change self.now new → change ≡ result }
+        ensures said { (change : Change) (new : Nodes) → IsSized path.now (λ before. max before (offset + length bytes.now)) change self.now new → change ≡ result }
+        ensures done { (new : Nodes) × IsSized path.now (λ before. max before (offset + length bytes.now)) result self.now new }
+        ensures within { IsChangeWithin result }
     {
         let Ok(number) = self.may_write(path, offset, bytes) else {
             unreachable!();
@@ -72,7 +79,9 @@ impl NodeTable {
 
     fn plan_truncate(&self, path: &Path, size: u64) -> Change
         requires { IsAccepted self.now (Truncate path.now size) }
-        ensures { (change : Change) (new : Nodes) → IsSized path.now (λ _. size) change self.now new → change ≡ result }
+        ensures said { (change : Change) (new : Nodes) → IsSized path.now (λ _. size) change self.now new → change ≡ result }
+        ensures done { (new : Nodes) × IsSized path.now (λ _. size) result self.now new }
+        ensures within { IsChangeWithin result }
     {
         let Ok(number) = self.may_size(path, size) else {
             unreachable!();
@@ -82,7 +91,9 @@ impl NodeTable {
 
     fn plan_remove(&self, path: &Path) -> Change
         requires { IsAccepted self.now (Remove path.now) }
-        ensures { (change : Change) (new : Nodes) → IsRemoved path.now change self.now new → change ≡ result }
+        ensures said { (change : Change) (new : Nodes) → IsRemoved path.now change self.now new → change ≡ result }
+        ensures done { (new : Nodes) × IsRemoved path.now result self.now new }
+        ensures within { IsChangeWithin result }
     {
         let _ = &self.nodes;
         let Ok(number) = self.may_remove(path) else {
@@ -102,7 +113,9 @@ impl NodeTable {
 
     fn plan_rename(&self, from: &Path, to: &Path) -> Change
         requires { IsAccepted self.now (Rename from.now to.now) }
-        ensures { (change : Change) (new : Nodes) → IsRenamed from.now to.now change self.now new → change ≡ result }
+        ensures said { (change : Change) (new : Nodes) → IsRenamed from.now to.now change self.now new → change ≡ result }
+        ensures done { (new : Nodes) × IsRenamed from.now to.now result self.now new }
+        ensures within { IsChangeWithin result }
     {
         let _ = &self.nodes;
         let Ok(plan) = self.may_rename(from, to) else {

@@ -1,15 +1,16 @@
 //! The table of all nodes.
 ghost use Rattle.std.specs.Prelude.{◌≡◌, ℕ, ◌≤◌, Some, None, [], IfOk, OnOk, OnErr, length, slice_index_or};
 ghost use Rattle.std.specs.FinSet as set;
+ghost use Rattle.std.specs.Option.{option_map};
 ghost use Rattle.tree_model.specs.Shape.{IsTree};
 ghost use Rattle.tree_model.specs.Step.{walk};
 ghost use Rattle.tree_model.specs.Tree.{Tree, new_tree};
 ghost use Rattle.node_table.specs.Changes.{IsSet};
 ghost use Rattle.node_table.specs.Found.{found};
-ghost use Rattle.node_table.specs.Held.{HoldsNodes};
+ghost use Rattle.node_table.specs.Held.{HoldsNodes, held, info};
 
 use crate::counted::{CountedDirectory, empty_directory};
-use crate::held::{FoundNode, HeldNode};
+use crate::held::{FoundNode, HeldNode, NodeInfo};
 use crate::walks::ROOT;
 use dir_slots::Directory;
 use number_set::NumberSet;
@@ -82,6 +83,16 @@ impl NodeTable {
         ensures { (tree : Tree) → IsTree tree → HoldsNodes self.now tree → result ≡ found (walk tree path.now) }
     {
         self.look(path.names())
+    }
+
+    /// What is known of the node of a number, if it has one.
+    pub fn info(&self, number: InoNo) -> Option<NodeInfo>
+        ensures { result ≡ option_map info (held self.now number) }
+    {
+        match self.held(number) {
+            Some(node) => Some(node.info()),
+            None => None,
+        }
     }
 }
 
