@@ -1,7 +1,7 @@
 -- A tree that is rewritten, from its parts.
 use Rattle.std.proofs.Common.{◌≡◌, ◌≢◌, ◌<◌, ◌≤◌, ◌^◌, ℕ, zero, suc, ◌+◌, ◌*◌, ◌/◌, ◌%◌, ◌==◌, List, [], ◌∷◌, ◌++◌, length, set, refl, ap, sym, ◌∙◌, subst, arith, ⊎_elim}
-use Rattle.std.specs.Prelude.{slice_index, if◌then◌else◌, Bool, true, false, All, IsTrue}
-use Rattle.std.proofs.lemmas.Bool.{cases_eq, cases_lt}
+use Rattle.std.specs.Prelude.{slice_index, if◌then◌else◌, nat_eq, not, Bool, true, false, All, IsTrue}
+use Rattle.std.proofs.lemmas.Bool.{cases_eq, cases_lt, eqb-true}
 use Rattle.std.proofs.lemmas.Bool.Decides.{nat_tests}
 use Rattle.std.proofs.lemmas.List.{get_or-set_same, get_or-set_other, get_or_past}
 use Rattle.std.proofs.lemmas.List.Sums.{sum_by-set}
@@ -134,6 +134,7 @@ module _ {read : Blocks} {root : TreeRoot} {changes : List Change} {cut top : �
   leaves_done {m = m} edited = record {
     kept = kept_at edited;
     tops = opened.tops;
+    topped = opened.topped;
     places = places_at edited;
     settles = λ after stand stays.
         let s = edited.settles after (takes.grows after stand) (opened.stay after stays 0) in
@@ -197,6 +198,25 @@ nonzero_first (x ∷ xs) some zeros = nonzero-cons x xs [] (zeros_lead_nowhere x
 pub settles_remove : (x : ℕ) (m : Noted) → Settles (x ∷ []) [] m (record m { dropped = m.dropped ++ nonzero (x ∷ []) })
 settles_remove x m = record { each = λ b. omega (arith, times-append b m.dropped (nonzero (x ∷ []))) }
 
+abbrev one_if : Bool → ℕ
+one_if t = (if t then 1 else 0) + 0
+
+-- a pointer leads to its block
+own_ref : (b : ℕ) → 0 < b → refs b (b ∷ []) ≡ 1
+own_ref b some =
+    let there : (b == 0) ≡ false = grind (arith, nat_tests) in
+    let same : nat_eq b b ≡ true = grind (arith, nat_tests) in
+    ap (λ (t : Bool). times b (if not t then b ∷ [] else [])) there ∙ ap one_if same
+
+-- and to no other
+of_ref : (b ptr : ℕ) → 1 ≤ refs b (ptr ∷ []) → b ≡ ptr
+of_ref b ptr some = by (ptr == 0) (nat_eq ptr b) refl some
+  where
+    by : (t u : Bool) → nat_eq ptr b ≡ u → 1 ≤ times b (if not t then ptr ∷ [] else []) → b ≡ ptr
+    by true u is some = absurd (omega (arith, some))
+    by false true is some = sym (eqb-true ptr b is)
+    by false false is some = absurd (omega (arith, some, ap one_if is))
+
 -- a top index that has a leaf is there
 top_there : (read : Blocks) (root : TreeRoot) (k : ℕ) → root.height ≡ 2 → 0 < leaf_at read root k → 0 < root.ptr
 top_there read root k two some = some_block root.ptr (subst (λ (h : ℕ). 0 < leaf_below read h root.ptr k) two some)
@@ -216,6 +236,7 @@ module _ {read : Blocks} {root : TreeRoot} {changes : List Change} {cut top : �
             (λ other same i small some there. absurd (omega (arith, some, same i small, emptied k (omega (arith, other)) lt i small)))
             (cases_eq k 0);
         kept_top = λ after stand stays two high. absurd (omega (arith, high));
+        top = λ high. absurd (omega (arith, high));
         places = λ after stand stays. by_leaves after (record { height = 1; ptr = slice_index leaves 0 }) (changed_at changes (cut_at cut (block_at read root))) (λ j lt i small. ⊎_elim
             (λ first. subst (λ (k : ℕ). slice_index (leaf_of after (record { height = 1; ptr = slice_index leaves 0 }) k) i ≡ changed_at changes (cut_at cut (block_at read root)) (1024 * k + i)) (sym first)
             (has.places after (record { each = stand.each }) stays 0 (omega arith) i small))
@@ -255,6 +276,10 @@ module _ {read : Blocks} {root : TreeRoot} {changes : List Change} {cut top : �
         let same : leaves ≡ was = same_list leaves was (long ∙ sym as_long) (λ j lt. sym ((renewed.entries after stand (has.top_is after stays)).each j) ∙ (all j (omega (arith, lt, long)) ∙ sym (tops.1 j))) in
         let is : slice_index leaves k ≡ leaf_at read root k = ap (λ (v : List ℕ). slice_index v k) same ∙ tops.1 k in
         (renewed.kept there same (λ none. some_nonzero leaves k (omega (arith, some, is)) none)).0 ∙ tops.0;
+    top = λ two some none.
+        let same = of_ref new top (omega (arith, own_ref new some, renewed.indexes new, none)) in
+        let old = has.topped (omega (arith, some, same)) in
+        (old.0, same ∙ old.1);
     places = λ after stand stays. by_leaves after (record { height = 2; ptr = new }) (changed_at changes (cut_at cut (block_at read root))) (λ j lt i small.
         ap (λ (t : ℕ). slice_index (index_at after t) i) ((renewed.entries after stand (has.top_is after stays)).each j)
         ∙ has.places after (renewed.takes.grows after stand) stays j lt i small);
@@ -292,6 +317,7 @@ pub tree_block : {read : Blocks} {root : TreeRoot} {changes : List Change} {cut 
 tree_block {read = read} {root = root} {changes = changes} {cut = cut} {ptrs = ptrs} long places fits all settles indexes turn = record {
   kept = λ after stand stays high. absurd (omega (arith, high));
   kept_top = λ after stand stays two high. absurd (omega (arith, high));
+  top = λ high. absurd (omega (arith, high));
   places = λ after stand stays. by_leaves after new at (λ j lt i small. ⊎_elim
       (λ first. subst (λ (k : ℕ). slice_index (leaf_of after new k) i ≡ at (1024 * k + i)) (sym first) (in_first i small))
       (λ other. ap (λ (v : List ℕ). slice_index v i) (sym (no_leaf (slice_index ptrs 0 ∷ []) j (omega (arith, other))))
@@ -324,6 +350,7 @@ pub tree_like : {read : Blocks} {root : TreeRoot} {xs : List Change} (ys : List 
 tree_like {read = read} {root = root} ys {cut = cut} like made = record {
   kept = λ after stand stays high k lt same. made.kept after stand stays high k lt (λ i small. like (cut_at cut (block_at read root)) (1024 * k + i) ∙ same i small);
   kept_top = made.kept_top;
+  top = made.top;
   places = λ after stand stays p lt. made.places after stand stays p lt ∙ like (cut_at cut (block_at read root)) p;
   settles = made.settles;
   full = made.full;

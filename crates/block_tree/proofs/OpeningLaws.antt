@@ -81,6 +81,7 @@ module _ (read : Blocks) (ptr : ℕ) (n m : ℕ) where
       record {
         blocks = λ j lt. zero_in n j;
         tops = λ two. absurd (omega (arith, two));
+        topped = λ some. absurd (omega (arith, some));
         first_places = leaf_places read root 0 (ptr ∷ []) (λ i. refl);
         rest_places = λ j some lt. leaf_places read root j (index_at read (slice_index none j)) (λ i.
             ap (λ (t : ℕ). slice_index (index_at read t) i) (zero_in n j) ∙ ap (λ (v : List ℕ). slice_index v i) (no_leaf (ptr ∷ []) j some));
@@ -99,6 +100,7 @@ module _ (read : Blocks) (ptr : ℕ) (n m : ℕ) where
       record {
         blocks = λ j lt. one_at j;
         tops = λ two. absurd (omega (arith, two));
+        topped = λ some. absurd (omega (arith, some));
         first_places = leaf_places read root 0 (index_at read ptr) (λ i. refl);
         rest_places = λ j some lt. leaf_places read root j (index_at read (slice_index one j)) (λ i.
             ap (λ (t : ℕ). slice_index (index_at read t) i) (past j some) ∙ ap (λ (v : List ℕ). slice_index v i) (no_leaf (index_at read ptr) j some));
@@ -138,6 +140,7 @@ opens_top read ptr was same =
     record {
       blocks = λ j lt. sym (same.each j);
       tops = λ two. (refl, λ j. sym (same.each j));
+      topped = λ some. (refl, refl);
       first_places = leaf_places read root 0 (index_at read (slice_index was 0)) (λ i. ap (λ (t : ℕ). slice_index (index_at read t) i) (sym (same.each 0)));
       rest_places = λ j some lt. leaf_places read root j (index_at read (slice_index was j)) (λ i. ap (λ (t : ℕ). slice_index (index_at read t) i) (sym (same.each j)));
       top_is = λ after stays some. subst (λ (v : List ℕ). SameEntries v was) (sym (index_stays read after ptr stays.0)) same;

@@ -44,10 +44,15 @@ first_of read root leaf = if root.height == 0 then root.ptr ∷ [] else index_at
 abbrev pub HasTop : Blocks → TreeRoot → ℕ → List ℕ → Type 0
 HasTop read root top was = root.height ≡ 2 → (top ≡ root.ptr) × ((j : ℕ) → slice_index was j ≡ leaf_at read root j)
 
+-- where there is a top index, it is the block of the root, at height 2
+abbrev pub IsTopped : TreeRoot → ℕ → Type 0
+IsTopped root top = 0 < top → (root.height ≡ 2) × (top ≡ root.ptr)
+
 -- The top index, if there is one, has the pointers `was`; `leaves` are the leaves, 0 where there is none; and `first` are the pointers of the places of leaf 0.
 pub record Opens (read : Blocks) (root : TreeRoot) (top : ℕ) (was leaves first : List ℕ) : Type 0 where
   pub blocks : (j : ℕ) → j < 1024 → slice_index leaves j ≡ leaf_at read root j
   pub tops : HasTop read root top was
+  pub topped : IsTopped root top
   pub first_places : IsLeafBefore (block_at read root) 0 first
   pub rest_places : (j : ℕ) → 1 ≤ j → j < 1024 → IsLeafBefore (block_at read root) j (index_at read (slice_index leaves j))
   pub top_is : (after : Blocks) → PartsStay read root after → 0 < top → SameEntries (index_at after top) was
@@ -64,6 +69,7 @@ pub record Opens (read : Blocks) (root : TreeRoot) (top : ℕ) (was leaves first
 pub record HasLeaves (read : Blocks) (root : TreeRoot) (changes : List Change) (cut : ℕ) (over : Bool) (top : ℕ) (was leaves : List ℕ) (m n : Noted) : Type 0 where
   pub kept : (j : ℕ) → j < 1024 → KeepsLeaf changes cut (block_at read root) j (leaf_at read root j) (slice_index leaves j)
   pub tops : HasTop read root top was
+  pub topped : IsTopped root top
   pub places : (after : Blocks) → Stand n.pages after → PartsStay read root after → (j : ℕ) → j < 1024 → IsLeafAfter changes cut (block_at read root) j (index_at after (slice_index leaves j))
   pub settles : (after : Blocks) → Stand n.pages after → PartsStay read root after → Settles (all_pointers read root) (top ∷ level after leaves) m n
   pub none : IsTrue over → (j : ℕ) → 1 ≤ j → j < 1024 → IsEmptied changes cut (block_at read root) j → slice_index leaves j ≡ 0
@@ -88,6 +94,8 @@ pub record IsTreeRewritten (read : Blocks) (root : TreeRoot) (changes : List Cha
   pub places : (after : Blocks) → Stand n.pages after → PartsStay read root after → (p : ℕ) → p < 1048576 → block_at after new p ≡ changed_at changes (cut_at cut (block_at read root)) p
   pub settles : (after : Blocks) → Stand n.pages after → PartsStay read root after → Settles (all_pointers read root) (all_pointers after new) m n
   pub full : (after : Blocks) → Stand n.pages after → PartsStay read root after → PartsFull read root → PartsFull after new
+  -- a top index that is no new page's is the old one
+  pub top : new.height ≡ 2 → 0 < new.ptr → paged new.ptr n ≡ 0 → (root.height ≡ 2) × (new.ptr ≡ root.ptr)
   -- each new index block is an old one or a page's
   pub indexes : (after : Blocks) → Stand n.pages after → PartsStay read root after → (b : ℕ) → times b (tree_indexes after new) + paged b m ≤ times b (tree_indexes read root) + paged b n
   -- and the new pages are some of them, the leaves first

@@ -81,6 +81,9 @@ pub fn rewrite<D: Disk>(
     // and a top index whose leaves have the blocks that they had keeps its own.
     ensures kept_top { IfOk result (λ w. IsTrue D.tells → (after : Blocks) → Stand w.pages after → Stays (blocks_in (D.state disk.old).contents) root.now after
         → KeepsTop (blocks_in (D.state disk.old).contents) root.now after w.root) }
+    // A top index is a page's or the old one.
+    ensures top { IfOk result (λ w. IsTrue D.tells → w.root.height ≡ 2 → 0 < w.root.ptr → is_among (page_blocks w.pages) w.root.ptr ≡ false
+        → (root.now.height ≡ 2) × (w.root.ptr ≡ root.now.ptr)) }
     // A block that isn't free is no page's.
     ensures apart { IfOk result (λ w. (b : ℕ) → is_among free.old b ≡ false → is_among (page_blocks w.pages) b ≡ false) }
     // Where the changes and the free blocks lead nowhere or into the area, each page is in the grammar, and the root may be handed in again.

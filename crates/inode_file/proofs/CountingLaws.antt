@@ -1,6 +1,6 @@
 -- There are as many inode blocks as different positions of the numbers of nodes.
-use Rattle.std.proofs.Common.{◌≡◌, ◌<◌, ◌≤◌, ◌⊎◌, ⊎_elim, ℕ, zero, suc, ◌+◌, ◌*◌, ◌/◌, ◌%◌, ◌==◌, Bool, true, false, cond, List, [], ◌∷◌, length, drop, refl, ap, ap₂, sym, ◌∙◌, arith, inl, inr}
-use Rattle.std.specs.Prelude.{slice_index, map, not, ◌||◌, nat_eq}
+use Rattle.std.proofs.Common.{◌≡◌, ◌<◌, ◌≤◌, ◌⊎◌, ⊎_elim, ℕ, zero, suc, ◌+◌, ◌-◌, ◌*◌, ◌++◌, ◌/◌, ◌%◌, ◌==◌, Bool, true, false, cond, List, [], ◌∷◌, length, drop, refl, ap, ap₂, sym, subst, ◌∙◌, arith, inl, inr}
+use Rattle.std.specs.Prelude.{slice_index, map, not, ◌&&◌, ◌||◌, nat_eq}
 use Rattle.std.proofs.lemmas.Bool.{eqb-true}
 use Rattle.std.proofs.lemmas.Bool.Decides.{nat_tests}
 use Rattle.std.proofs.lemmas.List.{get_or-take, get_or-drop}
@@ -10,8 +10,8 @@ use Rattle.place_words.specs.Different.{is_among, passing, span, AllWithin}
 use Rattle.place_words.proofs.Counting.{different_is}
 use Rattle.place_words.proofs.Totals.{image_from, image_to}
 use Rattle.block_tree.specs.Tree.{nonzero}
-use Rattle.inode_file.specs.Inodes.{inode_of, block_of, is_used}
-use Rattle.inode_file.specs.Rewriting.{has_used}
+use Rattle.inode_file.specs.Inodes.{InodeTable, inode_of, block_of, is_used}
+use Rattle.inode_file.specs.Rewriting.{has_used, is_written, only_if, passing_from, written_blocks}
 use Rattle.inode_file.specs.Counting.{used_from, used_positions}
 use Rattle.inode_file.proofs.BlockLaws.{beyond_block}
 
@@ -158,3 +158,49 @@ blocks_counted inodes pointers many long none some =
   where
     at : (i : ℕ) → 0 + i ≡ i
     at i = omega arith
+
+-- there are as many as positions that have the number of a node
+pub used_are : (inodes : List Inode) → length inodes ≡ 65536 → used_positions inodes ≡ passing (λ k. has_used (block_of inodes k)) (span 0 1024)
+used_are inodes many =
+    let positions : List ℕ = map (λ m. m / 64) (used_from 0 inodes) in
+    different_is 0 1024 positions (within 0 1024 inodes (omega (arith, many))) ∙ passing_same (is_among positions) (λ k. has_used (block_of inodes k)) (position_used inodes) (span 0 1024)
+
+-- how many positions from one on have the number of a node
+pub left_from : List Inode → ℕ → ℕ
+left_from inodes k = passing (λ i. has_used (block_of inodes i)) (span k (1024 - k))
+
+pub left_all : (inodes : List Inode) → length inodes ≡ 65536 → left_from inodes 0 ≡ used_positions inodes
+unfolding left_from
+left_all inodes many = sym (used_are inodes many)
+
+pub left_step : (inodes : List Inode) (k : ℕ) → k < 1024 → left_from inodes k ≡ (cond (has_used (block_of inodes k)) 1 0) + left_from inodes (k + 1)
+unfolding left_from
+left_step inodes k lt =
+    let one : 1024 - k ≡ suc (1024 - (k + 1)) = omega (arith, lt) in
+    ap (λ (n : ℕ). passing (λ i. has_used (block_of inodes i)) (span k n)) one
+
+pub left_none : (inodes : List Inode) (k : ℕ) → 1024 ≤ k → left_from inodes k ≡ 0
+unfolding left_from
+left_none inodes k le =
+    let none : 1024 - k ≡ 0 = omega (arith, le) in
+    ap (λ (n : ℕ). passing (λ i. has_used (block_of inodes i)) (span k n)) none
+
+-- no more positions pass a test than another one that is wider
+pub most_passing : (f g : ℕ → Bool) (k : ℕ) (ps : List ℕ) → ((i : ℕ) → f i ≡ true → g i ≡ true) → length (passing_from f k ps) ≤ passing g (span k (length ps))
+most_passing f g k [] wide = omega arith
+most_passing f g k (p ∷ ps) wide = by (f k) (g k) refl refl (most_passing f g (k + 1) ps wide)
+  where
+    by : (t u : Bool) → f k ≡ t → g k ≡ u → length (passing_from f (k + 1) ps) ≤ passing g (span (k + 1) (length ps)) → length (only_if t p ++ passing_from f (k + 1) ps) ≤ cond u 1 0 + passing g (span (k + 1) (length ps))
+    by true true is_f is_g le = omega (arith, le)
+    by false u is_f is_g le = omega (arith, le)
+    by true false is_f is_g le = let never : false ≡ true = sym is_g ∙ wide k is_f in cc
+
+pub written_most : (t : InodeTable) → length t.inodes ≡ 65536 → length t.pointers ≡ 1024 → written_blocks t ≤ used_positions t.inodes
+written_most t many long =
+    let test : ℕ → Bool = λ k. has_used (block_of t.inodes k) in
+    subst (λ (n : ℕ). written_blocks t ≤ n) (ap (λ (n : ℕ). passing test (span 0 n)) long ∙ sym (used_are t.inodes many))
+    (most_passing (is_written t) test 0 t.pointers (λ i is. first (has_used (block_of t.inodes i)) _ is))
+  where
+    first : (a b : Bool) → (a && b) ≡ true → a ≡ true
+    first true b e = refl
+    first false b e = cc

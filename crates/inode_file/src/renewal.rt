@@ -4,6 +4,7 @@ ghost use Rattle.block_format.specs.Words.{words};
 ghost use Rattle.block_format.specs.Inode.{inode_shape};
 ghost use Rattle.inode_file.specs.Inodes.{inode_of, block_of};
 ghost use Rattle.inode_file.specs.Rewriting.{is_current, is_fresh, is_written, passing_from};
+ghost use Rattle.inode_file.specs.Counting.{used_positions};
 ghost use Rattle.inode_file.specs.Renewal.{IsRenewed, AreRenewed, IsIndexRenewed};
 
 use crate::inode_block::{INODES, are_same, has_used, spelled};
@@ -134,6 +135,21 @@ pub(crate) fn count_fresh(inodes: &[Inode], stored: &[Inode], pointers: &Index) 
     let mut count = 0;
     for k in 0..1_024 {
         if is_fresh(pointers.ptrs[k], block_of(stored, k), block_of(inodes, k)) {
+            count += 1;
+        }
+    }
+    count
+}
+
+/// How many positions have the number of a node.
+pub(crate) fn count_used(inodes: &[Inode]) -> u32
+    requires { length inodes.now ≡ 65536 }
+    ensures is { result ≡ used_positions inodes.now }
+    ensures at_most { result ≤ 1024 }
+{
+    let mut count = 0;
+    for k in 0..1_024 {
+        if has_used(block_of(inodes, k)) {
             count += 1;
         }
     }

@@ -17,7 +17,7 @@ ghost use Rattle.inode_file.specs.Renewal.{IsPlanned, all_written};
 
 use crate::loading::{read_inodes, read_pointers};
 use crate::notes::Notes;
-use crate::renewal::{copy_inodes, count_fresh, renew_blocks, renew_index};
+use crate::renewal::{copy_inodes, count_fresh, count_used, renew_blocks, renew_index};
 use crate::taken::{is_taken, taken_numbers};
 use block_format::{Index, Inode};
 use block_tree::{Rewritten, TreeFault};
@@ -152,6 +152,16 @@ impl InodeFile {
         ensures whole { IsTable self.now }
     {
         count_fresh(&self.inodes, &self.stored, &self.pointers)
+    }
+
+    /// How many inode blocks the inodes take: one for each position of which a number is a node's.
+    pub fn used_blocks(&self) -> u32
+        ensures is { result ≡ used_positions self.now.inodes }
+        ensures at_most { result ≤ 1024 }
+        // A rewriting writes no more of them afresh.
+        ensures written { written_blocks self.now ≤ result }
+    {
+        count_used(&self.inodes)
     }
 
     /// Plans the inode blocks and the inode index as they are to be written. It writes nothing, but takes them for written from then on.

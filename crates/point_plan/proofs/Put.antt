@@ -28,7 +28,7 @@ use Rattle.point_model.proofs.Counted.{all_balance, counts_are_pointers}
 use Rattle.point_plan.specs.Carries.{Carries}
 use Rattle.point_plan.specs.Made.{IsMade, taken_by}
 use Rattle.point_plan.specs.Nodes.{added_in, all_added, all_dropped, dropped_in, inode_or, planned_of}
-use Rattle.point_plan.specs.declared.plan.Plan.{Plan}
+use Rattle.point_plan.specs.declared.planned.Plan.{Plan}
 use Rattle.point_plan.proofs.CountsPlanned.{listed}
 use Rattle.point_plan.proofs.InodesPlanned.{inodes_planned}
 use Rattle.point_plan.proofs.Times.{times_append}

@@ -10,7 +10,7 @@ use Rattle.block_tree.specs.Tree.{Blocks, blocks_in}
 use Rattle.count_pairs.specs.Table.{AllStand}
 use Rattle.dirty_store.specs.Overlay.{Overlay}
 use Rattle.point_model.specs.PointPlan.{LiveStays}
-use Rattle.point_plan.specs.declared.plan.Plan.{Plan}
+use Rattle.point_plan.specs.declared.planned.Plan.{Plan}
 use Rattle.point_plan.specs.declared.planned_node.PlannedNode.{PlannedNode}
 use Rattle.root_switch.specs.Current.{root_of_image, HasRoot, FitsImage}
 use Rattle.tree_model.specs.declared.report.Line.{Line}

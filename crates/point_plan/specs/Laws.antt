@@ -7,7 +7,7 @@ use Rattle.point_model.specs.Laws.{IsPlannedFor}
 use Rattle.point_plan.specs.Carries.{Carries}
 use Rattle.point_plan.specs.Made.{IsMade}
 use Rattle.point_plan.specs.State.{HoldsPoint, IsOfSize}
-use Rattle.point_plan.specs.declared.plan.Plan.{Plan}
+use Rattle.point_plan.specs.declared.planned.Plan.{Plan}
 use Rattle.point_plan.specs.declared.state.PointState.{PointState}
 use Rattle.volume_model.specs.Machine.{Machine, Rules}
 use Rattle.volume_model.specs.Point.{placed_after, fresh_in}

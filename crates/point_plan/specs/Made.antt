@@ -17,7 +17,7 @@ use Rattle.place_words.specs.Different.{times}
 use Rattle.point_model.specs.Holding.{inode_before, node_now}
 use Rattle.point_model.specs.PointPlan.{LiveStays, NodeIsPlanned, told}
 use Rattle.point_plan.specs.Nodes.{Ascend, IsCountable, added_in, all_added, all_dropped, dropped_in, inode_or, planned_of}
-use Rattle.point_plan.specs.declared.plan.Plan.{Plan}
+use Rattle.point_plan.specs.declared.planned.Plan.{Plan}
 use Rattle.point_plan.specs.declared.planned_node.PlannedNode.{PlannedNode}
 use Rattle.volume_model.specs.Machine.{Machine}
 use Rattle.volume_model.specs.Places.{Places}

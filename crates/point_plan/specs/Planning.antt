@@ -1,16 +1,21 @@
 -- What a plan of a point owes.
-use Rattle.std.specs.Prelude.{◌≡◌, ◌<◌, ◌≤◌, ℕ, ◌+◌, true, false, List, ◌++◌, All}
+use Rattle.std.specs.Prelude.{◌≡◌, ◌<◌, ◌≤◌, ℕ, ◌+◌, ◌*◌, ◌^◌, ◌%◌, true, false, List, ◌++◌, All, length}
 use Rattle.std.specs.List.{flat_map}
+use Rattle.vol_numbers.specs.Geometry.{layout_of}
+use Rattle.vol_numbers.specs.Layout.{count_blocks}
 use Rattle.vol_numbers.specs.declared.block.Block.{Block}
-use Rattle.block_format.specs.Root.{root_of}
+use Rattle.block_format.specs.Root.{root_of, HasGeometry}
 use Rattle.block_tree.specs.Notes.{page_blocks}
 use Rattle.dirty_store.specs.Overlay.{clean}
+use Rattle.dirty_store.specs.Undo.{Store}
+use Rattle.inode_file.specs.Inodes.{IsTable}
+use Rattle.inode_file.specs.Loading.{IsWithin}
 use Rattle.image_model.specs.Stands.{Stands}
 use Rattle.place_words.specs.Different.{Distinct, is_among}
 use Rattle.point_plan.specs.Carries.{Carries}
 use Rattle.point_plan.specs.Free.{IsFree}
-use Rattle.point_plan.specs.State.{HoldsPoint}
-use Rattle.point_plan.specs.declared.plan.Plan.{Plan}
+use Rattle.point_plan.specs.State.{HoldsPoint, IsStagedWithin}
+use Rattle.point_plan.specs.declared.planned.Plan.{Plan}
 use Rattle.point_plan.specs.declared.planned_node.PlannedNode.{PlannedNode}
 use Rattle.point_plan.specs.declared.state.PointState.{PointState}
 use Rattle.root_switch.specs.Current.{current_slot, root_of_image}
@@ -75,3 +80,23 @@ pub record IsPlan (r : Rules) (m : Machine) (old : List Block) (before s : Point
   pub once : Distinct (blocks_written plan)
   pub stands : (new : List Block) → Carries old new before.dirty.overlay plan s.counts.counts → Stands new (stored (after_point r m (fresh_in plan.report)))
   pub holds : (new : List Block) (after : PointState) → Carries old new before.dirty.overlay plan s.counts.counts → IsSettled new s after → HoldsPoint r (after_point r m (fresh_in plan.report)) new after
+
+-- On every disk: the root of a plan is within the rules of a root. It has the geometry and the homes of before, the next point number, an empty log,
+-- and the inode index of the memory after.
+pub record IsNextRoot (before s : PointState) (plan : Plan) : Type 0 where
+  pub grammar : HasGeometry (root_of plan.root)
+  pub geometry : plan.root.geometry ≡ before.geometry
+  pub homes : plan.root.homes ≡ before.current.body.homes
+  pub point : plan.root.point ≡ (before.current.body.point + 1) % 2 ^ 64
+  pub records : plan.root.records ≡ 0
+  pub log_used : plan.root.log_used ≡ 0
+  pub index : plan.root.inode_index ≡ s.inodes.index
+
+-- On every disk: the memory after a plan is within the rules of a volume, once nothing is staged.
+pub record IsPlannedWithin (s : PointState) : Type 0 where
+  pub table : IsTable s.inodes
+  pub within : IsWithin (layout_of s.geometry) s.inodes
+  pub settled : s.inodes.inodes ≡ s.inodes.stored
+  pub counts : length s.counts.counts ≡ 1024 * count_blocks (layout_of s.geometry)
+  pub touched : length s.counts.touched ≡ count_blocks (layout_of s.geometry)
+  pub staged : (dirty : Store) → dirty.overlay ≡ clean → IsStagedWithin (record s { dirty = dirty })

@@ -2,15 +2,21 @@
 #![tactic(auto)]
 
 mod counting;
+mod directories;
+mod fault;
 mod free;
+mod gathering;
 mod laws;
-mod plan;
+mod plan_laws;
+mod planned;
 mod planned_node;
 mod renewing;
 mod state;
+mod totals;
 
+pub use fault::PlanFault;
 pub use free::free_now_is_free;
 pub use laws::made_is_planned;
-pub use plan::Plan;
+pub use planned::Plan;
 pub use planned_node::{PlannedNode, PlannedNodeList};
 pub use state::PointState;

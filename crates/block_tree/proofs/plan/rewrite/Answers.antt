@@ -2,6 +2,7 @@ use Rattle.std.proofs.Common.{◌≤◌, ◌≡◌, ◌∙◌, ℕ, List, ap, ar
 use Rattle.vol_numbers.specs.Geometry.{layout_of}
 use Rattle.block_format.specs.Inode.{blocks_of, height_of}
 use Rattle.place_words.specs.Different.{times, is_among}
+use Rattle.place_words.proofs.Counting.{times_none}
 use Rattle.block_tree.specs.Tree.{blocks_in}
 use Rattle.block_tree.specs.Notes.{page_blocks, change_blocks}
 use Rattle.block_tree.specs.Order.{leaves_then_top}
@@ -92,6 +93,11 @@ returns-clause-kept_top g c tells after stand stays =
     let w = c.in_ok-made.made in
     let made = c.in_ok-made.ensures.rewritten tells in
     made.kept_top after stand (parts_stay read after root.height root.ptr stays)
+
+pub returns-clause-top : goal.returns-clause-top
+returns-clause-top g c tells two some none =
+    let w = c.in_ok-made.made in
+    (c.in_ok-made.ensures.rewritten tells).top two some (times_none w.root.ptr (page_blocks w.pages) none)
 
 pub returns-clause-apart : goal.returns-clause-apart
 returns-clause-apart g c b none = apart_front (page_blocks c.in_ok-made.made.pages) c.plan_changes.new.free b (ap (λ (v : List ℕ). is_among v b) c.in_ok-made.ensures.taken ∙ none)

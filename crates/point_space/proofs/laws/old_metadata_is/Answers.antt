@@ -1,0 +1,5 @@
+use Rattle.point_space.proofs.Unstaged.{old_metadata_is}
+use Rattle.point_space.proofs.laws.old_metadata_is.Goals as goal
+
+pub returns : goal.returns
+returns c = old_metadata_is c.at_rest.ensures c.pages_are_spelled.ensures
