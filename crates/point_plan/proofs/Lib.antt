@@ -1,3 +1,4 @@
+pub mod PreparedLaws
 pub mod TotalLaws
 pub mod WithinLaws
 pub mod RoomLaws

@@ -1,5 +1,5 @@
 -- What is read and taken for a plan before anything in memory changes. These words are for private functions.
-use Rattle.std.specs.Prelude.{◌≡◌, ◌≤◌, ℕ, ◌+◌, IsTrue, List, ◌++◌, All, length, map, option_map, sum_by}
+use Rattle.std.specs.Prelude.{◌≡◌, ◌≤◌, ℕ, ◌+◌, Bool, IsTrue, List, ◌++◌, All, length, map, option_map, sum_by}
 use Rattle.std.specs.List.{flat_map}
 use Rattle.vol_numbers.specs.Geometry.{layout_of}
 use Rattle.vol_numbers.specs.declared.block.Block.{Block}
@@ -63,7 +63,7 @@ pub record ArePlannedOver (r : Rules) (m : Machine) (old : List Block) (s : Poin
   pub nodes : AreNodesPlanned old s.dirty.overlay m (placed_after r m (blocks_told g.lines)) g.nodes
   pub before : All (λ (p : PlannedNode). p.metadata_before ≡ length (node_metas old p.number p.was)) g.nodes
   pub metadata : (new : List Block) → LiveStays old new → All (λ (p : PlannedNode). Stand p.pages (blocks_in new)) g.nodes → All (λ (p : PlannedNode). p.metadata ≡ length (node_metas new p.number p.is)) g.nodes
-  pub at_most : All (λ (p : PlannedNode). length (page_blocks p.pages) ≤ p.metadata) g.nodes
+  pub at_most : (new : List Block) → LiveStays old new → All (λ (p : PlannedNode). Stand p.pages (blocks_in new)) g.nodes → All (λ (p : PlannedNode). length (page_blocks p.pages) ≤ p.metadata) g.nodes
 
 -- ---- sums
 

@@ -1,7 +1,8 @@
 -- A plan that is put together of what was gathered. These words are for private functions.
-use Rattle.std.specs.Prelude.{◌≡◌, ◌<◌, ℕ, ◌+◌, true, false, List, ◌++◌, length, slice_index}
+use Rattle.std.specs.Prelude.{◌≡◌, ◌<◌, ℕ, ◌+◌, ◌^◌, ◌%◌, true, false, List, ◌++◌, length, slice_index}
 use Rattle.vol_numbers.specs.Geometry.{layout_of}
 use Rattle.vol_numbers.specs.declared.block.Block.{Block}
+use Rattle.block_format.specs.Root.{HasGeometry, root_of}
 use Rattle.block_format.specs.declared.root.RootBody.{RootBody}
 use Rattle.block_tree.specs.Notes.{Stand, page_blocks}
 use Rattle.block_tree.specs.Tree.{Blocks}
@@ -33,6 +34,16 @@ made_plan g w root free = record {
   report = record { number = root.point; fresh = g.dirty; shared = 0; free = free; lines = g.lines };
   root = root;
 }
+
+-- A root within the rules, with the geometry and the homes of another, the next point number, an empty log and this inode index.
+pub record IsRootAfter (before : RootBody) (at : ℕ) (root : RootBody) : Type 0 where
+  pub grammar : HasGeometry (root_of root)
+  pub geometry : root.geometry ≡ before.geometry
+  pub homes : root.homes ≡ before.homes
+  pub point : root.point ≡ (before.point + 1) % 2 ^ 64
+  pub records : root.records ≡ 0
+  pub log_used : root.log_used ≡ 0
+  pub index : root.inode_index ≡ at
 
 -- On every disk: the inodes are those before with those of the planned nodes, and stand where their pages do. What is taken for them is what was left.
 pub record AreInodesRenewed (s : PointState) (t : InodeTable) (g : Gathered) (w : Rewritten) : Type 0 where

@@ -4,6 +4,7 @@
 mod counting;
 mod directories;
 mod fault;
+mod finishing;
 mod free;
 mod gathering;
 mod laws;

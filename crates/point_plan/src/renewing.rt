@@ -29,6 +29,17 @@ pub(crate) enum RenewFault {
     Short,
 }
 
+impl From<AllocError> for RenewFault {
+    ghost use Rattle.std.specs.Prelude.{◌≡◌};
+    ghost use Rattle.point_plan.specs.declared.renewing.RenewFault.TheVariants.{OutOfMemory};
+
+    ghost from_gives = { λ _ fault. fault ≡ OutOfMemory };
+
+    fn from(_: AllocError) -> RenewFault {
+        RenewFault::OutOfMemory
+    }
+}
+
 /// How many blocks there may be, and how many are needed besides the inode blocks of after.
 pub(crate) struct Room {
     pub have: u64,
@@ -54,6 +65,7 @@ pub(crate) fn renew_inodes(
     ensures pointers { IfOk result (λ w. (b : ℕ) → times b (table_pointers inodes.old) + times b w.added ≡ times b (table_pointers inodes.new) + times b w.dropped) }
     ensures added { IfOk result (λ w. w.added ≡ page_blocks w.pages) }
     ensures taken { IfOk result (λ w. page_blocks w.pages ++ free.new ≡ free.old) }
+    ensures index { IfOk result (λ w. w.root.ptr ≡ inodes.new.index) }
     ensures whole { OnOk result (IsTable inodes.new) }
     // There is an inode block only where one of its numbers is a node's.
     ensures some { OnOk result ((k : ℕ) → k < 1024 → has_nodes inodes.new k ≡ false → slice_index inodes.new.pointers k ≡ 0) }
