@@ -1,3 +1,13 @@
+pub mod PreparedLaws
+pub mod TotalLaws
+pub mod WithinLaws
+pub mod RoomLaws
+pub mod WrittenImage
+pub mod GatheredLaws
+pub mod Together
+mod Steps
+mod DirectorySteps
+mod HeldLaws
 pub mod Times
 pub mod Numbered
 pub mod InodesPlanned

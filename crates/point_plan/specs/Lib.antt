@@ -1,7 +1,13 @@
+pub mod Directories
 pub mod State
 pub mod Nodes
 pub mod Carries
 pub mod Made
+pub mod Gathered
 pub mod Laws
 pub mod Free
 pub mod Planning
+pub mod Cause
+pub mod PutTogether
+pub mod NoRoom
+pub mod Room

@@ -2,13 +2,20 @@
 #![tactic(auto)]
 
 mod counting;
+mod directories;
+mod fault;
+mod finishing;
 mod free;
+mod gathering;
 mod laws;
+mod plan_laws;
 mod planned;
 mod planned_node;
 mod renewing;
 mod state;
+mod totals;
 
+pub use fault::PlanFault;
 pub use free::free_now_is_free;
 pub use laws::made_is_planned;
 pub use planned::Plan;

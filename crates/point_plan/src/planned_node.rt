@@ -15,6 +15,9 @@ pub struct PlannedNode {
     /// The pointers that come and those that go, with repeats.
     pub added: PointerList,
     pub dropped: PointerList,
+    /// How many blocks of metadata it had at the last point, and how many it is going to have.
+    pub metadata_before: u32,
+    pub metadata: u32,
 }
 
 /// Nodes that have changed, by number.

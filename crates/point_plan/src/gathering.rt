@@ -1,0 +1,46 @@
+//! What is read and taken for a plan before anything in memory changes.
+ghost use Rattle.std.specs.Prelude.{◌≡◌, ◌<◌, ◌≤◌, ℕ, true, IfOk, IsErrOf, IsTrue, length};
+ghost use Rattle.vol_numbers.specs.Geometry.{layout_of};
+ghost use Rattle.disk_model.specs.Past.{Adds};
+ghost use Rattle.block_tree.specs.Causes.{IsDamage};
+ghost use Rattle.block_tree.specs.Tree.{blocks_in};
+ghost use Rattle.point_plan.specs.Cause.{HasPlanCause};
+ghost use Rattle.point_plan.specs.Free.{free_now};
+ghost use Rattle.point_plan.specs.Gathered.{ArePlannedOver, IsGathered};
+ghost use Rattle.point_plan.specs.Planning.{SharesNothing};
+ghost use Rattle.point_plan.specs.State.{HoldsPoint, IsOfSize};
+ghost use Rattle.point_plan.specs.declared.fault.PlanFault.TheVariants.{Damaged, Short};
+ghost use Rattle.volume_model.specs.Machine.{Machine, Rules, free_of};
+ghost use Rattle.volume_model.specs.Short.{is_short};
+
+use crate::{PlanFault, PlannedNodeList, PointState};
+use disk_model::Disk;
+use fresh_runs::place_fresh;
+use run_allocator::FreeMap;
+use std::alloc::{AllocError, Global};
+use tree_model::LineList;
+use vol_numbers::CountList;
+
+/// What is read and taken for a plan.
+#[derive(Drop)]
+pub(crate) struct Gathered {
+    /// The changed nodes, by number.
+    pub nodes: PlannedNodeList,
+    /// The fresh lines of the report.
+    pub lines: LineList,
+    /// The blocks that are still free.
+    pub left: FreeMap,
+    /// How many blocks are free at the last point.
+    pub free: u32,
+    /// How many places are dirty.
+    pub dirty: u32,
+}
+
+/// The blocks that the counts in memory call free.
+pub(crate) fn free_blocks(alloc: Global, state: &PointState) -> Result<FreeMap, AllocError>
+    requires { (layout_of state.now.geometry).blocks ≤ length state.now.counts.counts }
+    ensures { IfOk result (λ free. free ≡ free_now state.now) }
+{
+    let counts = CountList::from_vec(state.counts.as_slice().to_vec(alloc)?);
+    FreeMap::of(alloc, &counts, &state.geometry)
+}
