@@ -1,0 +1,4 @@
+pub mod Applying
+pub mod Between
+pub mod LookLaws
+pub mod TreeReplies
