@@ -2,6 +2,7 @@
 #![tactic(auto)]
 
 mod given;
+mod telling;
 mod volume;
 
 pub use given::{Given, Stopped};
