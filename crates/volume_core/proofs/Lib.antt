@@ -1,0 +1,5 @@
+pub mod Applying
+pub mod Between
+pub mod LookLaws
+pub mod Pointing
+pub mod TreeReplies

@@ -1,0 +1,4 @@
+pub mod Memory
+pub mod Answers
+pub mod Begun
+pub mod Between
