@@ -12,3 +12,8 @@ pub mod HoldsLaws
 pub mod CutLaws
 pub mod LengthLaws
 pub mod PageCounts
+pub mod PagesAt
+pub mod AtPoint
+pub mod LeafCounts
+pub mod MetaCounts
+pub mod NodeLaws
