@@ -17,3 +17,4 @@ pub mod AtPoint
 pub mod LeafCounts
 pub mod MetaCounts
 pub mod NodeLaws
+pub mod FaultLaws
