@@ -18,3 +18,5 @@ pub mod LeafCounts
 pub mod MetaCounts
 pub mod NodeLaws
 pub mod FaultLaws
+pub mod NeedLaws
+pub mod CountedLaws

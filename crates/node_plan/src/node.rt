@@ -28,7 +28,7 @@ ghost use Rattle.node_plan.specs.declared.fault.NodeFault.TheVariants.{Short};
 use crate::counting::{index_count, index_count_with};
 use crate::kinds::plan_tree;
 use crate::root::{own_pages, root_of};
-use crate::{NodeFault, NodePlan, TreePlan};
+use crate::{NodeFault, NodePlan};
 use block_format::Inode;
 use dir_slots::Directory;
 use dirty_store::DirtyStore;
@@ -80,20 +80,20 @@ pub fn plan_node<D: Disk>(
     ensures fixed { D.fixed disk.new ≡ D.fixed disk.old }
     ensures cause { HasNodeCause (D.faults disk.old) (D.faults disk.new) result }
 {
-    let indexes_before = index_count(disk, g, &root_of(was))?;
-    let TreePlan {
-        inode,
-        pages,
-        added,
-        dropped,
-    } = plan_tree(alloc, disk, g, store, number, was, left, changes, free)?;
-    let indexes = index_count_with(&root_of(&inode), pages.as_slice(), indexes_before);
+    let root_before = root_of(was);
+    let indexes_before = index_count(disk, g, &root_before)?;
+    let own_before = own_pages(was);
+    let plan = plan_tree(alloc, disk, g, store, number, was, left, changes, free)?;
+    let root = root_of(&plan.inode);
+    let pages = plan.pages.as_slice();
+    let indexes = index_count_with(&root, pages, indexes_before);
+    let own = own_pages(&plan.inode);
     Ok(NodePlan {
-        metadata_before: indexes_before + own_pages(was),
-        metadata: indexes + own_pages(&inode),
-        inode,
-        pages,
-        added,
-        dropped,
+        metadata_before: indexes_before + own_before,
+        metadata: indexes + own,
+        inode: plan.inode,
+        pages: plan.pages,
+        added: plan.added,
+        dropped: plan.dropped,
     })
 }
