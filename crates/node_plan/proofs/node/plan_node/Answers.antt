@@ -1,7 +1,9 @@
 use Rattle.std.proofs.Common.{◌≡◌, ◌≤◌, sym, subst}
 use Rattle.std.specs.Option.{option_copied}
+use Rattle.vol_numbers.specs.Geometry.{layout_of}
 use Rattle.disk_model.specs.Disk.{State}
 use Rattle.disk_model.proofs.Moments.{adds_read}
+use Rattle.block_tree.specs.Tree.{blocks_in}
 use Rattle.block_tree.specs.declared.root.TreeRoot.{TreeRoot}
 use Rattle.node_plan.specs.Nodes.{IsTreePlanned}
 use Rattle.node_plan.specs.Pages.{slots_or_none}
@@ -56,4 +58,6 @@ pub returns-in_err-plan-clause-moments : goal.returns-in_err-plan-clause-moments
 returns-in_err-plan-clause-moments g c tells = adds_read (c.in_ok-indexes_before.ensures.moments tells) (c.in_ok-indexes_before.ensures.same tells) (c.in_err-plan.ensures.moments tells)
 
 pub returns-in_err-plan-clause-damaged : goal.returns-in_err-plan-clause-damaged
-returns-in_err-plan-clause-damaged g c = ?
+returns-in_err-plan-clause-damaged g c =
+    damage_after (layout_of c.args.g.now) g.D.Disk.tells (blocks_in (g.D.Disk.state c.plan_tree.new.disk).contents) (g.D.Disk.given c.args.disk.now) (g.D.Disk.given c.index_count.new.disk) (g.D.Disk.given c.plan_tree.new.disk)
+    c.from_residual-in_err-plan.result c.in_err-plan.field-0.0 c.from_residual-in_err-plan.ensures.1 c.in_ok-indexes_before.ensures.damaged c.in_err-plan.ensures.damaged
