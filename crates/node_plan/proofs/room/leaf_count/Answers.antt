@@ -18,8 +18,8 @@ loop-change-preserved c =
     let lt = c.loop-change-test.true in
     let small : (d : Change) → (get_or cs i d).place / 1024 < 1024 = λ d. omega (arith, subst (λ (l : List Change). All (λ (x : Change). x.place < 1048576) l) (sym c.as_slice-change-items.ensures) c.requires i d lt) in
     elim c.if-not-seen-leaf.branch [
-      then-not-seen-leaf w ↦ (counted_as _ c.if-not-seen-leaf.seen _ _ _ c.if-not-seen-leaf.count w.seen-is (leaves_more cs i _ lt) w.count-is (counted_more c.loop-change.seen (leaves_of (take i cs)) c.loop-change.count _ inv (small _) w.if-not-seen-leaf.true), omega (arith, w.count-is, c.loop-change.invariant.1))
-    | else-not-seen-leaf w ↦ (counted_as _ c.if-not-seen-leaf.seen _ _ _ c.if-not-seen-leaf.count w.seen-is (leaves_more cs i _ lt) w.count-is (counted_again c.loop-change.seen (leaves_of (take i cs)) c.loop-change.count _ inv (small _) w.if-not-seen-leaf.false), omega (arith, w.count-is, c.loop-change.invariant.1))
+      | then-not-seen-leaf w ↦ (counted_as _ c.if-not-seen-leaf.seen _ _ _ c.if-not-seen-leaf.count w.seen-is (leaves_more cs i _ lt) w.count-is (counted_more c.loop-change.seen (leaves_of (take i cs)) c.loop-change.count _ inv (small _) w.if-not-seen-leaf.true), omega (arith, w.count-is, c.loop-change.invariant.1))
+      | else-not-seen-leaf w ↦ (counted_as _ c.if-not-seen-leaf.seen _ _ _ c.if-not-seen-leaf.count w.seen-is (leaves_more cs i _ lt) w.count-is (counted_again c.loop-change.seen (leaves_of (take i cs)) c.loop-change.count _ inv (small _) w.if-not-seen-leaf.false), omega (arith, w.count-is, c.loop-change.invariant.1))
     ]
 
 pub returns : goal.returns
