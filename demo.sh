@@ -52,11 +52,18 @@ idedup format absent/v
 session "${first[@]}"
 printf '\nA second session finds what the first one was told is done:\n'
 session 'list /' 'list /My%20Photos' 'rename /My%20Photos/note /note' 'stat /note' 'remove /My%20Photos' 'read /note 0 5'
+printf '\nThe volume is good, with the root directory of the format and a record for each change:\n'
+idedup check v
 printf '\nThe record of the write in the log:\n'
 od -A d -t x1z -j $((9 * 4096)) -N 48 v
 printf '\nAn image that is no volume:\n'
 head -c 40960 /dev/zero >zeros
 idedup serve zeros </dev/null
+idedup check zeros
+printf '\nA volume whose count of block 105 says 3, though no pointer leads there:\n'
+cp v wrong
+printf '\3' | dd of=wrong bs=1 seek=$((3 * 4096 + 4 * 105)) conv=notrunc status=none
+idedup check wrong
 
 printf '\nA server that is ended without warning in the middle of 1,000 new files, each with a line in it:\n'
 idedup format w --blocks 8192 --log 4096

@@ -1,6 +1,8 @@
 pub mod Answering
 pub mod Asked
+pub mod Checking
 pub mod Faults
+pub mod Findings
 pub mod Items
 pub mod Run
 pub mod Serves

@@ -15,6 +15,8 @@ pub data Request : Type 0 where
   Format : List ℕ → Layout → Request
   -- to serve a session over the volume in the image of this name
   Serve : List ℕ → Request
+  -- to check the image of this name
+  Check : List ℕ → Request
 
 -- a number below 2^32: no row of the table of actions has a greater one
 abbrev pub within_table : ℕ → Option ℕ
@@ -60,14 +62,20 @@ abbrev pub serve_of : List ℕ → List (List ℕ) → Option Request
 serve_of image [] = Some (Serve image)
 serve_of image (option ∷ options) = None
 
+-- a check takes no options
+abbrev pub check_of : List ℕ → List (List ℕ) → Option Request
+check_of image [] = Some (Check image)
+check_of image (option ∷ options) = None
+
 -- what the words behind an action and an image ask for
 abbrev pub action_of : List ℕ → List ℕ → List (List ℕ) → Option Request
 action_of action image options =
     if bytes_eq action (codes "format") then option_and_then (format_of image) (with_options no_options options)
     else if bytes_eq action (codes "serve") then serve_of image options
+    else if bytes_eq action (codes "check") then check_of image options
     else None
 
--- what the words ask for, if they are in the table of actions: `format IMAGE [--blocks N] [--log N]` or `serve IMAGE`
+-- what the words ask for, if they are in the table of actions: `format IMAGE [--blocks N] [--log N]`, `serve IMAGE` or `check IMAGE`
 abbrev pub request_of : List (List ℕ) → Option Request
 request_of (action ∷ image ∷ options) = if is_image_name image then action_of action image options else None
 request_of words = None

@@ -1,6 +1,8 @@
 //! The server's top call: words, an image, a source and a sink in, a status out.
 #![tactic(auto)]
 
+mod checking;
+mod findings;
 mod meaning;
 mod opening;
 mod reply;

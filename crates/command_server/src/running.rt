@@ -2,15 +2,18 @@
 ghost use Rattle.std.specs.Prelude.{◌≡◌, ◌⊎◌, ◌-◌, None, Some, IfSome, IsTrue};
 ghost use Rattle.vol_numbers.specs.Geometry.{layout_of};
 ghost use Rattle.vol_numbers.specs.Layout.{area_size};
+ghost use Rattle.disk_model.specs.Media.{image_named};
 ghost use Rattle.disk_model.specs.Past.{Adds};
+ghost use Rattle.command_server.specs.Checking.{Checks, Decides};
 ghost use Rattle.command_server.specs.Faults.{device_faults, source_faults, sink_faults};
 ghost use Rattle.command_server.specs.Words.{bytes_of_words, request_of, Format};
 ghost use Rattle.command_server.specs.Texts.{usage_text, formatted_text};
-ghost use Rattle.command_server.specs.Run.{PutsBy, PutsFor, IsServe, IfServe, IsActionDone, IsMade, KeepsOthers, IsDuring};
+ghost use Rattle.command_server.specs.Run.{PutsBy, PutsFor, IsServe, IfServe, IfCheck, IsActionDone, IsMade, KeepsOthers, IsDuring};
 ghost use Rattle.command_server.specs.Serves.{Serves, ends_of};
 ghost use Rattle.command_server.specs.declared.status.Status.TheVariants.{Done, Usage, Device, SinkFailed};
 
 use crate::Status;
+use crate::checking::check_image;
 use crate::opening::serve_image;
 use crate::reply::{put_formatted, put_usage};
 use crate::words::{Request, read_words};
@@ -40,13 +43,20 @@ pub fn run<M: Media, R: Source, W: Sink>(
     // What is written, and what is made.
     ensures put { PutsFor (request_of (bytes_of_words words.now)) result (W.seen sink.old) (W.seen sink.new) }
     ensures made { IsActionDone result → IsTrue M.tells → IfSome (request_of (bytes_of_words words.now)) (λ request. IsMade request (M.fixed media.new) (M.state media.new)) }
-    ensures moments { IsTrue M.tells → IfSome (request_of (bytes_of_words words.now)) (λ request. Adds (M.past media.old) (M.past media.new) (IsDuring request (M.state media.new))) }
+    ensures moments { IsTrue M.tells → IfSome (request_of (bytes_of_words words.now)) (λ request. Adds (M.past media.old) (M.past media.new)
+        (IsDuring request (image_named (M.fixed media.old) (M.state media.old)) (M.state media.new))) }
 
     // A session.
     ensures served { IfServe (request_of (bytes_of_words words.now)) (λ image. Serves M.tells image
         (ends_of (R.seen source.old) (W.seen sink.old) (M.fixed media.old) (M.state media.old) (M.past media.old))
         (ends_of (R.seen source.new) (W.seen sink.new) (M.fixed media.new) (M.state media.new) (M.past media.new))
         result) }
+
+    // A check.
+    ensures checks { IfCheck (request_of (bytes_of_words words.now)) (λ image. Checks result M.tells
+        (image_named (M.fixed media.old) (M.state media.old) image) (W.seen sink.old) (W.seen sink.new)) }
+    ensures decides { IsTrue M.tells → IfCheck (request_of (bytes_of_words words.now)) (λ image.
+        IfSome (image_named (M.fixed media.old) (M.state media.old) image) (λ there. Decides there.contents result)) }
 
     // What stays.
     ensures others { IsTrue M.tells → IfSome (request_of (bytes_of_words words.now)) (λ request.
@@ -57,6 +67,7 @@ pub fn run<M: Media, R: Source, W: Sink>(
     match read_words(words) {
         Some(Request::Format { image, geometry }) => format_image(image, &geometry, media, sink),
         Some(Request::Serve { image }) => serve_image(alloc, image, media, source, sink),
+        Some(Request::Check { image }) => check_image(alloc, image, media, sink),
         None => refuse(sink),
     }
 }
@@ -85,7 +96,8 @@ fn format_image<M: Media, W: Sink>(
     ensures sink_faults { (W.seen sink.new).faults ≡ sink_faults result (W.seen sink.old).faults }
     ensures put { PutsBy result (formatted_text (area_size (layout_of geometry.now) - 2)) (W.seen sink.old) (W.seen sink.new) }
     ensures made { IsActionDone result → IsTrue M.tells → IsMade (Format image.now (layout_of geometry.now)) (M.fixed media.new) (M.state media.new) }
-    ensures moments { IsTrue M.tells → Adds (M.past media.old) (M.past media.new) (IsDuring (Format image.now (layout_of geometry.now)) (M.state media.new)) }
+    ensures moments { IsTrue M.tells → Adds (M.past media.old) (M.past media.new)
+        (IsDuring (Format image.now (layout_of geometry.now)) (image_named (M.fixed media.old) (M.state media.old)) (M.state media.new)) }
     ensures others { IsTrue M.tells → KeepsOthers (Format image.now (layout_of geometry.now)) (M.fixed media.old) (M.state media.old) (M.fixed media.new) (M.state media.new) }
 {
     match media.open(image, Some(geometry.blocks())) {

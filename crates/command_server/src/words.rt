@@ -1,6 +1,6 @@
 //! What the words of a call ask for, read by hand: the action, the image, and then pairs of an option and its value.
 ghost use Rattle.std.specs.Prelude.{◌≡◌, ◌∷◌, map, Some, None, option_and_then, true, false, MatchOption};
-ghost use Rattle.command_server.specs.Words.{bytes_of_words, no_options, request_of, format_of, serve_of, with_options, with_option, value_in, layout_in, is_layout, is_image_name};
+ghost use Rattle.command_server.specs.Words.{bytes_of_words, no_options, request_of, format_of, serve_of, check_of, with_options, with_option, value_in, layout_in, is_layout, is_image_name};
 ghost use Rattle.vol_numbers.specs.Geometry.{layout_of};
 ghost use Rattle.command_server.specs.Asked.{asked};
 
@@ -21,6 +21,8 @@ pub(crate) enum Request<'a> {
     Format { image: &'a str, geometry: Geometry },
     /// To serve a session over the volume in an image.
     Serve { image: &'a str },
+    /// To check an image.
+    Check { image: &'a str },
 }
 
 /// What the words ask for, if they are in the table of actions.
@@ -43,6 +45,7 @@ fn read_action<'a>(action: &str, image: &'a str, options: &[&str]) -> Option<Req
     match action {
         "format" => read_format(image, options),
         "serve" => read_serve(image, options),
+        "check" => read_check(image, options),
         _ => None,
     }
 }
@@ -54,6 +57,17 @@ fn read_serve<'a>(image: &'a str, options: &[&str]) -> Option<Request<'a>>
 {
     match options {
         [] => Some(Request::Serve { image }),
+        _ => None,
+    }
+}
+
+/// A check takes no options.
+fn read_check<'a>(image: &'a str, options: &[&str]) -> Option<Request<'a>>
+    ensures { let request = check_of image.now (bytes_of_words options.now) in
+        MatchOption result (request ≡ None) (λ read. request ≡ Some (asked read)) }
+{
+    match options {
+        [] => Some(Request::Check { image }),
         _ => None,
     }
 }

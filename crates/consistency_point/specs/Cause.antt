@@ -1,6 +1,8 @@
 -- Causes of faults, and which of them come before the first write.
 use Rattle.std.specs.Prelude.{◌≡◌, ℕ, Result, Ok, Err}
 use Rattle.vol_numbers.specs.Cause.{raised}
+use Rattle.point_plan.specs.declared.fault.PlanFault.{PlanFault}
+use Rattle.point_plan.specs.declared.fault.PlanFault.TheVariants as plans
 use Rattle.consistency_point.specs.declared.fault.PointFault.{PointFault}
 use Rattle.consistency_point.specs.declared.fault.PointFault.TheVariants.{ReadFault, Damaged, WriteFault, OutOfMemory, Short}
 
@@ -29,3 +31,10 @@ EndsBeforeWrites (Err fault) = IsBeforeWrites fault
 -- the answer comes after the first write
 abbrev pub HasWritten : {T : Type 0} → Result T PointFault → Type 0
 HasWritten answer = EndsBeforeWrites answer → ⊥
+
+-- the fault of a plan, as one of a point
+abbrev pub fault_of : PlanFault → PointFault
+fault_of plans.ReadFault = ReadFault
+fault_of (plans.Damaged b) = Damaged b
+fault_of plans.OutOfMemory = OutOfMemory
+fault_of (plans.Short free) = Short free

@@ -1,5 +1,6 @@
 //! Why a point isn't taken.
 use disk_model::DiskFault;
+use point_plan::PlanFault;
 use thiserror::Error;
 use vol_numbers::BlockNo;
 
@@ -16,6 +17,22 @@ pub enum PointFault {
     OutOfMemory,
     #[error("of the {free} free blocks too few are left after the point")]
     Short { free: u32 },
+}
+
+impl From<PlanFault> for PointFault {
+    ghost use Rattle.std.specs.Prelude.{◌≡◌};
+    ghost use Rattle.consistency_point.specs.Cause.{fault_of};
+
+    ghost from_gives = { λ from fault. fault ≡ fault_of from };
+
+    fn from(fault: PlanFault) -> PointFault {
+        match fault {
+            PlanFault::ReadFault => PointFault::ReadFault,
+            PlanFault::Damaged(b) => PointFault::Damaged(b),
+            PlanFault::OutOfMemory => PointFault::OutOfMemory,
+            PlanFault::Short { free } => PointFault::Short { free },
+        }
+    }
 }
 
 impl From<DiskFault> for PointFault {

@@ -13,3 +13,11 @@ pub mod CutLaws
 pub mod LengthLaws
 pub mod PageCounts
 pub mod RenewedLaws
+pub mod PagesAt
+pub mod AtPoint
+pub mod LeafCounts
+pub mod MetaCounts
+pub mod NodeLaws
+pub mod FaultLaws
+pub mod NeedLaws
+pub mod CountedLaws

@@ -3,3 +3,5 @@ pub mod Pages
 pub mod Directories
 pub mod Laws
 pub mod Renewed
+pub mod Nodes
+pub mod Faults

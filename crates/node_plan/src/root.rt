@@ -1,8 +1,11 @@
 //! Where a node's tree begins.
 ghost use Rattle.std.specs.Prelude.{◌≡◌, ◌≤◌, min};
+ghost use Rattle.dir_slots.specs.Pages.{pages_for};
+ghost use Rattle.point_model.specs.Holding.{width_in};
 ghost use Rattle.block_format.specs.Inode.{blocks_of};
 ghost use Rattle.node_plan.specs.Trees.{root_of};
 
+use crate::pages::SLOTS;
 use block_format::{Inode, blocks_of};
 use block_tree::TreeRoot;
 use vol_numbers::Fbn;
@@ -24,4 +27,15 @@ pub(crate) fn cut_within(cut_to: Fbn, size: u64) -> Fbn
     ensures { result ≡ min cut_to (blocks_of size) }
 {
     u64::from(cut_to).min(blocks_of(size)) as Fbn
+}
+
+/// How many pages a directory has, by its inode, and 0 of what is none.
+pub(crate) fn own_pages(inode: &Inode) -> u32
+    ensures is { result ≡ pages_for (width_in inode.now) }
+    ensures at_most { result ≤ 268435456 }
+{
+    match *inode {
+        Inode::Directory { width, .. } => width.div_ceil(SLOTS),
+        _ => 0,
+    }
 }

@@ -30,6 +30,16 @@ pub(crate) fn serve_over<W: Sink>(
     Ok(run(alloc, &["serve", "v"], media, &mut source, sink))
 }
 
+/// A check of the image `v`.
+pub(crate) fn check_over<W: Sink>(
+    alloc: Global,
+    media: &mut MemMedia,
+    sink: &mut W,
+) -> Result<Status, AllocError> {
+    let mut source = MemSource::new(ByteList::new(alloc), 1, CallList::new(alloc));
+    Ok(run(alloc, &["check", "v"], media, &mut source, sink))
+}
+
 /// A sink with room for what any test writes.
 pub(crate) fn roomy(alloc: Global) -> Result<MemSink, AllocError> {
     MemSink::new(alloc, ROOM, CallList::new(alloc))
