@@ -11,7 +11,7 @@ use Rattle.block_format.specs.Slot.{SlotFits}
 use Rattle.block_format.specs.declared.inode.Inode.{Inode}
 use Rattle.block_format.specs.declared.inode.Inode.TheVariants.{Unused, File, Directory}
 use Rattle.block_format.specs.declared.slot.Slot.{Slot}
-use Rattle.block_tree.specs.Notes.{page_blocks, Stand}
+use Rattle.block_tree.specs.Notes.{page_blocks, change_blocks, Stand}
 use Rattle.block_tree.specs.Tree.{blocks_in, pairs_below}
 use Rattle.dir_slots.specs.Pages.{pages_for}
 use Rattle.dir_slots.specs.Slots.{IsDirectory, slot_at}
@@ -20,7 +20,7 @@ use Rattle.image_model.specs.Nodes.{AllBelow, blocks_in_node}
 use Rattle.image_model.specs.Planned.{height_in}
 use Rattle.node_table.specs.Held.{info}
 use Rattle.node_table.specs.declared.held.NodeInfo.TheVariants as infos
-use Rattle.place_words.specs.Different.{is_among}
+use Rattle.place_words.specs.Different.{is_among, times}
 use Rattle.point_model.specs.Holding.{inode_before, staged_or, kind_of, slot_or, as_node}
 use Rattle.point_model.specs.NodePlan.{node_metas, node_pointers, AreOfPlaces, TreeIsPlanned, PointersArePlanned}
 use Rattle.point_model.specs.PointPlan.{LiveStays, NodeIsPlanned, ContentIsPlanned, told}
@@ -103,6 +103,7 @@ module _ (tells : Bool) (old : List Block) (o : Overlay) (n : ℕ) (was : Inode)
   unused_planned none is nothing tree pointers = record {
     shape = subst (λ (x : Inode). IsTrue (inode_shape x)) (sym is) refl;
     kind = ap told is ∙ sym (ap (λ (x : Inode). option_map info (as_node x (slots_over o n before))) unused);
+    used = λ b. omega (arith, ap (times b) nothing.1);
     planned = λ yes r m at placed places new live stand.
         put_together at.inode new m placed [] (tree yes cut (unused_ends r old o m n was before at unused) new)
         (subst (λ (qs : List Page). PointersArePlanned old new n was p.inode p.added p.dropped (page_blocks qs)) (sym nothing.0) (pointers yes n new))
@@ -120,10 +121,12 @@ module _ (tells : Bool) (old : List Block) (o : Overlay) (n : ℕ) (was : Inode)
       → (IsTrue tells → (k : ℕ) (new : List Block) → Carries old new was p.pages → PointersArePlanned old new k was p.inode p.added p.dropped (page_blocks p.pages))
       → (IsTrue tells → (k : ℕ) (new : List Block) → Carries old new was p.pages → length (page_blocks p.pages) ≤ length (node_metas new k p.inode))
       → (IsTrue tells → height_in p.inode ≡ 2 → 0 < pointer_of p.inode → is_among (page_blocks p.pages) (pointer_of p.inode) ≡ false → IsTop was (pointer_of p.inode))
+      → ((b : ℕ) → times b p.added ≤ times b (page_blocks p.pages) + times b (change_blocks changes))
       → IsTreePlanned tells old o n was before changes p
-  bytes_planned size file is shape tree pointers pages top = record {
+  bytes_planned size file is shape tree pointers pages top used = record {
     shape = shape;
     kind = ap told is ∙ sym (ap (λ (x : Inode). option_map info (as_node x (slots_over o n before))) (told_file now size file));
+    used = used;
     planned = λ yes r m at placed places new live stand.
         let carried = carries r old o m n was before at new p.pages live stand in
         put_together at.inode new m placed changes
@@ -139,10 +142,12 @@ module _ (tells : Bool) (old : List Block) (o : Overlay) (n : ℕ) (was : Inode)
       → (IsTrue tells → HoldsDirectory old o n was left → (new : List Block) → Carries old new was p.pages → (m : Machine) (placed : Places) → NodeIsPlanned old new o m placed n p.inode p.added p.dropped (page_blocks p.pages))
       → (IsTrue tells → (k : ℕ) (new : List Block) → Carries old new was p.pages → length (page_blocks p.pages) ≤ length (node_metas new k p.inode))
       → (IsTrue tells → height_in p.inode ≡ 2 → 0 < pointer_of p.inode → is_among (page_blocks p.pages) (pointer_of p.inode) ≡ false → IsTop was (pointer_of p.inode))
+      → ((b : ℕ) → times b p.added ≤ times b (page_blocks p.pages))
       → IsTreePlanned tells old o n was before changes p
-  names_planned left same directory slots is shape planned pages top = record {
+  names_planned left same directory slots is shape planned pages top used = record {
     shape = shape;
     kind = ap told is ∙ ap (λ (w : ℕ). Some (infos.Directory w)) (ap (λ (ss : List Slot). width_with ss o n) same ∙ sym (width_over o n before)) ∙ sym (told_names now directory (slots_over o n before));
+    used = λ b. omega (arith, used b);
     planned = λ yes r m at placed places new live stand.
         planned yes (subst (HoldsDirectory old o n was) (sym same) (directory_held r old o m n was before at directory (left_short o n before slots))) new (carries r old o m n was before at new p.pages live stand) m placed;
     metas = λ yes r m at new live stand.

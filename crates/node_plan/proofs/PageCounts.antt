@@ -39,6 +39,15 @@ pub none_at_most : (tells : Bool) (old : List Block) (was : Inode) (r : Result T
 none_at_most tells old was (Ok p) nothing = λ told n new carries. omega (arith, ap (λ (qs : List Page). length (page_blocks qs)) nothing.0)
 none_at_most tells old was (Err e) nothing = tt
 
+pub none_used : (changes : List Change) (r : Result TreePlan TreeFault) → IfOk r (λ p. (p.pages ≡ []) × (p.added ≡ []))
+    → IfOk r (λ p. (b : ℕ) → times b p.added ≤ times b (page_blocks p.pages) + times b (change_blocks changes))
+none_used changes (Ok p) nothing = λ b. omega (arith, ap (times b) nothing.1)
+none_used changes (Err e) nothing = tt
+
+pub none_paged : (r : Result TreePlan TreeFault) → IfOk r (λ p. (p.pages ≡ []) × (p.added ≡ [])) → IfOk r (λ p. (b : ℕ) → times b p.added ≤ times b (page_blocks p.pages))
+none_paged (Ok p) nothing = λ b. omega (arith, ap (times b) nothing.1)
+none_paged (Err e) nothing = tt
+
 pub no_top : (tells : Bool) (was x : Inode) → height_in x ≡ 0 → (r : Result TreePlan TreeFault) → IfOk r (λ p. p.inode ≡ x)
     → IfOk r (λ p. IsTrue tells → height_in p.inode ≡ 2 → 0 < pointer_of p.inode → is_among (page_blocks p.pages) (pointer_of p.inode) ≡ false → IsTop was (pointer_of p.inode))
 no_top tells was x low (Ok p) is = λ told two some none. absurd (omega (arith, two, low, ap height_in is))

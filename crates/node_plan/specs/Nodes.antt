@@ -8,7 +8,7 @@ use Rattle.block_format.specs.declared.inode.Inode.{Inode}
 use Rattle.block_format.specs.declared.inode.Inode.TheVariants.{Unused, File, Directory}
 use Rattle.block_format.specs.declared.slot.Slot.{Slot}
 use Rattle.block_tree.specs.Edit.{leaves_of}
-use Rattle.block_tree.specs.Notes.{Stand, page_blocks}
+use Rattle.block_tree.specs.Notes.{Stand, page_blocks, change_blocks}
 use Rattle.block_tree.specs.Root.{tree_indexes}
 use Rattle.block_tree.specs.Tree.{blocks_in}
 use Rattle.dir_slots.specs.Pages.{pages_for}
@@ -19,7 +19,7 @@ use Rattle.image_model.specs.Slots.{slots_of as slots_seen}
 use Rattle.image_model.specs.Stands.{Stands}
 use Rattle.node_table.specs.Held.{info}
 use Rattle.node_table.specs.declared.held.HeldNode.{HeldNode}
-use Rattle.place_words.specs.Different.{different, is_among}
+use Rattle.place_words.specs.Different.{different, is_among, times}
 use Rattle.point_model.specs.Holding.{HoldsMachine, inode_before, staged_or, width_in, slots_from, as_node}
 use Rattle.point_model.specs.NodePlan.{AreOfPlaces, node_metas}
 use Rattle.point_model.specs.PointPlan.{LiveStays, NodeIsPlanned, told}
@@ -80,11 +80,13 @@ PlansNode old o n was before changes is added dropped pages = (r : Rules) (m : M
 abbrev pub HasMetas : List Block → ℕ → Inode → Type 0
 HasMetas image n inode = length (node_metas image n inode) ≡ length (tree_indexes (blocks_in image) (root_of inode)) + pages_for (width_in inode)
 
--- What is planned of the tree of a number, for private functions: the inode is in shape and of the kind of now, and where the disk tells, the number is planned,
--- its metadata are its index blocks and its pages, the metadata is at least the pages, and a top index is a page's or the old one.
+-- What is planned of the tree of a number, for private functions: the inode is in shape and of the kind of now, and what comes leads to a page or to the block of
+-- a change, and no more often. Where the disk tells, the number is planned, its metadata are its index blocks and its pages, the metadata is at least the pages,
+-- and a top index is a page's or the old one.
 pub record IsTreePlanned (tells : Bool) (old : List Block) (o : Overlay) (n : ℕ) (was : Inode) (before : List Slot) (changes : List Change) (p : TreePlan) : Type 0 where
   pub shape : IsTrue (inode_shape p.inode)
   pub kind : told p.inode ≡ option_map info (node_over o n was before)
+  pub used : (b : ℕ) → times b p.added ≤ times b (page_blocks p.pages) + times b (change_blocks changes)
   pub planned : IsTrue tells → PlansNode old o n was before changes p.inode p.added p.dropped p.pages
   pub metas : IsTrue tells → (r : Rules) (m : Machine) → IsAtPoint r old o m n was before → (new : List Block) → LiveStays old new → Stand p.pages (blocks_in new) → HasMetas new n p.inode
   pub at_most : IsTrue tells → (new : List Block) → Carries old new was p.pages → length (page_blocks p.pages) ≤ length (node_metas new n p.inode)

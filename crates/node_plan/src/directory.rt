@@ -5,7 +5,7 @@ ghost use Rattle.vol_numbers.specs.Geometry.{layout_of};
 ghost use Rattle.vol_numbers.specs.declared.block.Block.{Block};
 ghost use Rattle.vol_numbers.specs.declared.runs.Change.{Change as ChangeOf};
 ghost use Rattle.disk_model.specs.Past.{Adds};
-ghost use Rattle.place_words.specs.Different.{different, is_among};
+ghost use Rattle.place_words.specs.Different.{different, is_among, times};
 ghost use Rattle.place_words.specs.Rising.{Rising, AllUnder};
 ghost use Rattle.block_format.specs.Index.{IsPointer};
 ghost use Rattle.block_format.specs.Inode.{blocks_of, inode_shape, pointer_of};
@@ -67,6 +67,8 @@ pub fn plan_directory<D: Disk>(
     ensures at_most { IfOk result (λ p. IsTrue D.tells → (n : ℕ) (new : List Block) → Carries (D.state disk.old).contents new was.now p.pages → length (page_blocks p.pages) ≤ length (node_metas new n p.inode)) }
     // A top index is a page's or the old one.
     ensures top { IfOk result (λ p. IsTrue D.tells → height_in p.inode ≡ 2 → 0 < pointer_of p.inode → is_among (page_blocks p.pages) (pointer_of p.inode) ≡ false → IsTop was.now (pointer_of p.inode)) }
+    // What comes leads to a page, and no more often.
+    ensures used { IfOk result (λ p. (b : ℕ) → times b p.added ≤ times b (page_blocks p.pages)) }
     ensures taken { IfOk result (λ p. page_blocks p.pages ++ free.new ≡ free.old) }
     // Where the free blocks lead into the area, so does the inode.
     ensures begins { IfOk result (λ p. All (IsPointer (layout_of g.now)) free.old → IsRoot (layout_of g.now) (root_of p.inode)) }
@@ -114,6 +116,7 @@ fn plan_slots<D: Disk>(
         → NodeIsPlanned (D.state disk.old).contents new store.now.overlay m placed number p.inode p.added p.dropped (page_blocks p.pages)) }
     ensures at_most { IfOk result (λ p. IsTrue D.tells → (n : ℕ) (new : List Block) → Carries (D.state disk.old).contents new was.now p.pages → length (page_blocks p.pages) ≤ length (node_metas new n p.inode)) }
     ensures top { IfOk result (λ p. IsTrue D.tells → height_in p.inode ≡ 2 → 0 < pointer_of p.inode → is_among (page_blocks p.pages) (pointer_of p.inode) ≡ false → IsTop was.now (pointer_of p.inode)) }
+    ensures used { IfOk result (λ p. (b : ℕ) → times b p.added ≤ times b (page_blocks p.pages)) }
     ensures taken { IfOk result (λ p. page_blocks p.pages ++ free.new ≡ free.old) }
     ensures begins { IfOk result (λ p. All (IsPointer (layout_of g.now)) free.old → IsRoot (layout_of g.now) (root_of p.inode)) }
     ensures unchanged { OnErr result (free.new ≡ free.old) }
@@ -183,6 +186,7 @@ fn plan_pages<D: Disk>(
     ensures at_most { IfOk result (λ p. IsTrue D.tells → (n : ℕ) (new : List Block) → Carries (D.state disk.old).contents new was.now p.pages → length (page_blocks p.pages) ≤ length (node_metas new n p.inode)) }
     ensures top { IfOk result (λ p. IsTrue D.tells → height_in p.inode ≡ 2 → 0 < pointer_of p.inode → is_among (page_blocks p.pages) (pointer_of p.inode) ≡ false → IsTop was.now (pointer_of p.inode)) }
     ensures front { IfOk result (λ p. (read : Blocks) → Stand p.pages read → Stand spelled.pages.items read) }
+    ensures used { IfOk result (λ p. (b : ℕ) → times b p.added ≤ times b (page_blocks p.pages)) }
     ensures taken { IfOk result (λ p. page_blocks p.pages ++ free.new ≡ page_blocks spelled.pages.items ++ free.old) }
     ensures begins { IfOk result (λ p. LeadInto (layout_of g.now) spelled.changes → All (IsPointer (layout_of g.now)) free.old → IsRoot (layout_of g.now) (root_of p.inode)) }
     ensures damaged { IsTreeDamage (layout_of g.now) D.tells (blocks_in (D.state disk.new).contents) (D.given disk.old) (D.given disk.new) result }

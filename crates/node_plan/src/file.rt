@@ -4,13 +4,13 @@ ghost use Rattle.vol_numbers.specs.Geometry.{layout_of};
 ghost use Rattle.vol_numbers.specs.declared.block.Block.{Block};
 ghost use Rattle.vol_numbers.specs.declared.runs.Change.{Change as ChangeOf};
 ghost use Rattle.disk_model.specs.Past.{Adds};
-ghost use Rattle.place_words.specs.Different.{different, is_among};
+ghost use Rattle.place_words.specs.Different.{different, is_among, times};
 ghost use Rattle.block_format.specs.Index.{IsPointer};
 ghost use Rattle.block_format.specs.Inode.{blocks_of, inode_shape, pointer_of};
 ghost use Rattle.block_format.specs.declared.inode.Inode.TheVariants.{File};
 ghost use Rattle.block_tree.specs.Tree.{blocks_in};
 ghost use Rattle.block_tree.specs.Root.{IsRoot};
-ghost use Rattle.block_tree.specs.Notes.{page_blocks};
+ghost use Rattle.block_tree.specs.Notes.{page_blocks, change_blocks};
 ghost use Rattle.block_tree.specs.Pages.{LeadInto};
 ghost use Rattle.block_tree.specs.Edit.{leaves_of};
 ghost use Rattle.block_tree.specs.Causes.{HasTreeCause, IsTreeDamage};
@@ -58,6 +58,8 @@ pub fn plan_file<D: Disk>(
     ensures at_most { IfOk result (λ p. IsTrue D.tells → (n : ℕ) (new : List Block) → Carries (D.state disk.old).contents new was.now p.pages → length (page_blocks p.pages) ≤ length (node_metas new n p.inode)) }
     // A top index is a page's or the old one.
     ensures top { IfOk result (λ p. IsTrue D.tells → height_in p.inode ≡ 2 → 0 < pointer_of p.inode → is_among (page_blocks p.pages) (pointer_of p.inode) ≡ false → IsTop was.now (pointer_of p.inode)) }
+    // What comes leads to a page or to the block of a change, and no more often.
+    ensures used { IfOk result (λ p. (b : ℕ) → times b p.added ≤ times b (page_blocks p.pages) + times b (change_blocks changes.now)) }
     ensures taken { IfOk result (λ p. page_blocks p.pages ++ free.new ≡ free.old) }
     // Where the changes and the free blocks lead nowhere or into the area, so does the inode.
     ensures begins { IfOk result (λ p. LeadInto (layout_of g.now) changes.now → All (IsPointer (layout_of g.now)) free.old → IsRoot (layout_of g.now) (root_of p.inode)) }

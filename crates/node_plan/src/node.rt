@@ -1,13 +1,14 @@
 //! Plans a node by its kind now.
-ghost use Rattle.std.specs.Prelude.{◌≡◌, ◌<◌, ◌≤◌, ◌++◌, All, length, List, IfOk, IsErrOf, OnErr, IsTrue, Some, true};
+ghost use Rattle.std.specs.Prelude.{◌≡◌, ◌<◌, ◌≤◌, ◌+◌, ◌++◌, ℕ, All, length, List, IfOk, IsErrOf, OnErr, IsTrue, Some, true};
 ghost use Rattle.std.specs.Option.{option_copied, option_map};
 ghost use Rattle.vol_numbers.specs.Geometry.{layout_of};
 ghost use Rattle.vol_numbers.specs.declared.block.Block.{Block};
 ghost use Rattle.vol_numbers.specs.declared.runs.Change.{Change as ChangeOf};
 ghost use Rattle.disk_model.specs.Past.{Adds};
+ghost use Rattle.place_words.specs.Different.{times};
 ghost use Rattle.block_format.specs.Index.{IsPointer};
 ghost use Rattle.block_format.specs.Inode.{blocks_of, inode_shape};
-ghost use Rattle.block_tree.specs.Notes.{Stand, page_blocks};
+ghost use Rattle.block_tree.specs.Notes.{Stand, page_blocks, change_blocks};
 ghost use Rattle.block_tree.specs.Pages.{LeadInto};
 ghost use Rattle.block_tree.specs.Root.{IsRoot};
 ghost use Rattle.block_tree.specs.Tree.{blocks_in};
@@ -69,6 +70,8 @@ pub fn plan_node<D: Disk>(
     // Each page is a block of metadata.
     ensures at_most { IfOk result (λ p. IsTrue D.tells → (r : Rules) (m : Machine) → IsAtPoint r (D.state disk.old).contents store.now.overlay m number was.now (slots_or_none (option_copied left.entry))
         → (new : List Block) → LiveStays (D.state disk.old).contents new → Stand p.pages (blocks_in new) → length (page_blocks p.pages) ≤ p.metadata) }
+    // What comes leads to a page or to the block of a change, and no more often.
+    ensures used { IfOk result (λ p. (b : ℕ) → times b p.added ≤ times b (page_blocks p.pages) + times b (change_blocks changes.now)) }
     ensures taken { IfOk result (λ p. page_blocks p.pages ++ free.new ≡ free.old) }
     // Where the changes and the free blocks lead nowhere or into the area, so does the inode.
     ensures begins { IfOk result (λ p. LeadInto (layout_of g.now) changes.now → All (IsPointer (layout_of g.now)) free.old → IsRoot (layout_of g.now) (root_of p.inode)) }

@@ -2,7 +2,7 @@ use Rattle.std.proofs.Common.{refl}
 use Rattle.std.specs.Option.{option_copied}
 use Rattle.block_format.specs.declared.inode.Inode.TheVariants.{Directory}
 use Rattle.node_plan.specs.Pages.{slots_or_none}
-use Rattle.node_plan.proofs.PageCounts.{no_top, none_at_most}
+use Rattle.node_plan.proofs.PageCounts.{no_top, none_at_most, none_paged}
 use Rattle.node_plan.proofs.PlannedLaws.{empty_directory}
 use Rattle.node_plan.proofs.directory.plan_directory.Goals as goal
 
@@ -16,3 +16,6 @@ returns-then-width-eq0-clause-at_most g c = none_at_most g.D.Disk.tells (g.D.Dis
 
 pub returns-then-width-eq0-clause-top : goal.returns-then-width-eq0-clause-top
 returns-then-width-eq0-clause-top g c = no_top g.D.Disk.tells c.args.was.now (Directory c.width_now-width.result 0 0) refl c.without_blocks.result c.without_blocks.ensures.inode
+
+pub returns-then-width-eq0-clause-used : goal.returns-then-width-eq0-clause-used
+returns-then-width-eq0-clause-used g c = none_paged c.without_blocks.result c.without_blocks.ensures.nothing

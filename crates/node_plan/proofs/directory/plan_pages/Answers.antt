@@ -90,3 +90,11 @@ returns-clause-top g c tells two some none =
     ap (λ (qs : List Page). page_blocks qs) c.in_ok-pages.ensures ∙ map-append (λ (p : Page). p.at) first w.pages in
     let apart = none_behind (page_blocks first) (page_blocks w.pages) w.root.ptr (sym (ap (λ (bs : List ℕ). is_among bs w.root.ptr) joined) ∙ none) in
     subst (λ (r : TreeRoot). (r.height ≡ 2) × (w.root.ptr ≡ r.ptr)) c.root_of-root.ensures (c.in_ok-made.ensures.top tells two some apart)
+
+pub returns-clause-used : goal.returns-clause-used
+returns-clause-used g c b =
+    let first = c.args.spelled.pages.items in
+    let w = c.in_ok-made.made in
+    let joined : page_blocks c.in_ok-pages.pages ≡ page_blocks first ++ page_blocks w.pages =
+    ap (λ (qs : List Page). page_blocks qs) c.in_ok-pages.ensures ∙ map-append (λ (p : Page). p.at) first w.pages in
+    omega (arith, c.in_ok-made.ensures.used b, ap (times b) joined, times_append b (page_blocks first) (page_blocks w.pages), ap (times b) c.requires.leads)

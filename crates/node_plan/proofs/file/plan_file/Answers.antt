@@ -6,7 +6,7 @@ use Rattle.block_tree.specs.Tree.{blocks_in}
 use Rattle.block_tree.specs.declared.root.TreeRoot.{TreeRoot}
 use Rattle.node_plan.proofs.CutLaws.{map_within}
 use Rattle.node_plan.proofs.MetaLaws.{file_pointers}
-use Rattle.node_plan.proofs.PageCounts.{GivesPages, file_at_most, no_top, none_at_most}
+use Rattle.node_plan.proofs.PageCounts.{GivesPages, file_at_most, no_top, none_at_most, none_used}
 use Rattle.node_plan.proofs.TreeLaws.{empty_file, tree_planned, GivesMap, GivesFull, GivesPointers, GivesIndexes}
 use Rattle.node_plan.proofs.file.plan_file.Goals as goal
 
@@ -22,6 +22,9 @@ returns-then-size-eq0-clause-at_most g c = none_at_most g.D.Disk.tells (g.D.Disk
 
 pub returns-then-size-eq0-clause-top : goal.returns-then-size-eq0-clause-top
 returns-then-size-eq0-clause-top g c = no_top g.D.Disk.tells c.args.was.now (File c.args.size 0 0) refl c.without_blocks.result c.without_blocks.ensures.inode
+
+pub returns-then-size-eq0-clause-used : goal.returns-then-size-eq0-clause-used
+returns-then-size-eq0-clause-used g c = none_used c.args.changes.now c.without_blocks.result c.without_blocks.ensures.nothing
 
 pub returns-clause-tree : goal.returns-clause-tree
 returns-clause-tree g c tells ends full new carries =

@@ -18,7 +18,7 @@ returns-clause-plan g c =
     let plan = c.in_ok-plan.plan in
     let tree = subst (λ (k : ℕ). IsTrue g.D.Disk.tells → EndsAt old was k (blocks_of c.args.size) → IsFullTree old was → (new : List Block) → Carries old new was plan.pages → TreeIsPlanned old new was plan.inode k c.args.changes.now) c.cut_to-cut_to.ensures p.tree in
     bytes_planned g.D.Disk.tells old c.args.store.now.overlay c.args.number was (slots_or_none (option_copied c.args.left)) c.args.changes.now plan
-    c.args.size c.requires.now p.inode p.shape tree p.pointers p.at_most p.top
+    c.args.size c.requires.now p.inode p.shape tree p.pointers p.at_most p.top p.used
 
 pub leaf_count-requires : goal.leaf_count-requires
 leaf_count-requires g c = file_places c.args.size c.args.changes.now c.requires.size c.requires.places

@@ -21,6 +21,9 @@ returns-clause-shape g c = c.in_ok-plan.ensures.plan.shape
 pub returns-clause-kind : goal.returns-clause-kind
 returns-clause-kind g c = c.in_ok-plan.ensures.plan.kind
 
+pub returns-clause-used : goal.returns-clause-used
+returns-clause-used g c = c.in_ok-plan.ensures.plan.used
+
 pub returns-clause-planned : goal.returns-clause-planned
 returns-clause-planned g c tells =
     let p = c.in_ok-plan.plan in
