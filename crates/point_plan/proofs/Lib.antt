@@ -17,3 +17,6 @@ pub mod Stays
 pub mod Written
 pub mod Whole
 pub mod FreeBlocks
+pub mod NumberPlanned
+pub mod NodesPlanned
+pub mod NodesLoop

@@ -4,6 +4,7 @@ pub mod Nodes
 pub mod Carries
 pub mod Made
 pub mod Gathered
+pub mod PlanNodes
 pub mod Laws
 pub mod Free
 pub mod Planning

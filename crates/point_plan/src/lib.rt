@@ -8,6 +8,7 @@ mod finishing;
 mod free;
 mod gathering;
 mod laws;
+mod nodes;
 mod plan_laws;
 mod planned;
 mod planned_node;
