@@ -17,3 +17,4 @@ pub mod Stays
 pub mod Written
 pub mod Whole
 pub mod FreeBlocks
+pub mod RestedLaws

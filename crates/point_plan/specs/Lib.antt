@@ -11,3 +11,4 @@ pub mod Cause
 pub mod PutTogether
 pub mod NoRoom
 pub mod Room
+pub mod Rested
