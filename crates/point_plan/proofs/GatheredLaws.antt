@@ -30,6 +30,7 @@ use Rattle.point_plan.specs.declared.state.PointState.{PointState}
 use Rattle.point_plan.proofs.FreeBlocks.{free_now_is_free}
 use Rattle.point_plan.proofs.Times.{times_append}
 use Rattle.point_plan.proofs.WrittenImage.{all_pages, others_stay, pages_stand, with_pages}
+use Rattle.tree_model.specs.declared.report.Line.{Line}
 use Rattle.volume_model.specs.Machine.{Machine, Rules}
 use Rattle.volume_model.specs.Point.{fresh_in, share_lines}
 use Rattle.volume_model.specs.ReportLaws.{IsReport}
@@ -77,35 +78,32 @@ pub record HasPages (old : List Block) (nodes : List PlannedNode) : Type 0 where
   pub live : LiveStays old new
   pub stand : All (λ (p : PlannedNode). Stand p.pages (blocks_in new)) nodes
 
-module _ (r : Rules) (m : Machine) (old : List Block) (blocks : ℕ) (s : PointState) (g : Gathered) (shares : SharesNothing r) (holds : HoldsPoint r m old s) (sized : IsOfSize blocks s) (gathered : IsGathered s g) where
-  pub layout_is : layout_of s.geometry ≡ layout_in old
-  layout_is = sym (ap (λ x. layout_of x) sized.root) ∙ ap (λ (x : Root). x.layout) holds.root
+-- ---- lines
 
+module _ (r : Rules) (m : Machine) (old : List Block) (blocks : ℕ) (s : PointState) (lines : List Line) (left : List ℕ) (shares : SharesNothing r) (holds : HoldsPoint r m old s) (sized : IsOfSize blocks s)
+    (fresh : AreFreshLines m lines) (parted : (b : ℕ) → times b (blocks_told lines) + times b left ≡ times b (free_now s)) where
   none_shared : share_lines r m ≡ []
   none_shared =
       let most = holds.coherent.cache.at_most in
       let none = shares.capacity in
       nothing_is_shared r m shares.threshold holds.coherent.whole (none_long m.cache (omega (arith, most, none)))
 
-  pub lines_are : AreFreshLines m g.lines
-  lines_are = record { spots = gathered.spots ∙ holds.staged.dirty; longest = gathered.longest }
-
   unused : AreUnused m (free_now s)
   unused = free_now_is_free.unused r m old blocks s holds sized
 
-  pub reported : IsReport r m (fresh_report r m g.lines)
-  reported = fresh_is_reported.report r m g.lines (free_now s) (pages_in g.nodes ++ g.left) shares.threshold holds.coherent.whole none_shared lines_are unused gathered.parted
+  -- lines that have the dirty places are those of a report
+  pub lines_reported : IsReport r m (fresh_report r m lines)
+  lines_reported = fresh_is_reported.report r m lines (free_now s) left shares.threshold holds.coherent.whole none_shared fresh unused parted
 
-  pub told : fresh_in (fresh_report r m g.lines) ≡ blocks_told g.lines
-  told = fresh_is_reported.told r m g.lines lines_are
+  pub lines_told : fresh_in (fresh_report r m lines) ≡ blocks_told lines
+  lines_told = fresh_is_reported.told r m lines fresh
 
-  -- ---- an image with the pages
+-- ---- an image with pages
 
-  pages_most : (b : ℕ) → times b (pages_in g.nodes) ≤ times b (free_now s)
-  pages_most b = omega (arith, gathered.parted b, times_append b (pages_in g.nodes) g.left)
-
-  page_free : (b : ℕ) → 1 ≤ times b (pages_in g.nodes) → IsFree old b
-  page_free b some = free_now_is_free.free r m old blocks s holds sized b (times_among b (free_now s) (omega (arith, some, pages_most b)))
+module _ (r : Rules) (m : Machine) (old : List Block) (blocks : ℕ) (s : PointState) (nodes : List PlannedNode) (holds : HoldsPoint r m old s) (sized : IsOfSize blocks s)
+    (most : (b : ℕ) → times b (pages_in nodes) ≤ times b (free_now s)) where
+  page_free : (b : ℕ) → 1 ≤ times b (pages_in nodes) → IsFree old b
+  page_free b some = free_now_is_free.free r m old blocks s holds sized b (times_among b (free_now s) (omega (arith, some, most b)))
 
   in_image : (b : ℕ) → IsFree old b → b < length old
   in_image b free = within (layout_in old) free.area holds.stands.fits.size
@@ -118,19 +116,38 @@ module _ (r : Rules) (m : Machine) (old : List Block) (blocks : ℕ) (s : PointS
           by true false is e = cc
           by false u is e = cc
 
-  pub has_pages : HasPages old g.nodes
-  has_pages =
-      let same : (b : ℕ) → times b (page_blocks (all_pages g.nodes)) ≡ times b (pages_in g.nodes) = λ b. ap (times b) (blocks_of_pages g.nodes) in
+  -- pages for free blocks stand in some image
+  pub some_pages : HasPages old nodes
+  some_pages =
+      let same : (b : ℕ) → times b (page_blocks (all_pages nodes)) ≡ times b (pages_in nodes) = λ b. ap (times b) (blocks_of_pages nodes) in
       record {
-        new = with_pages old (all_pages g.nodes);
-        live = λ b live. others_stay old (all_pages g.nodes) b (none b live (same b));
-        stand = each_stands (blocks_in (with_pages old (all_pages g.nodes))) g.nodes
-            (pages_stand old (all_pages g.nodes) (λ b. omega (arith, same b, pages_most b, free_now_is_free.once s b)) (λ b some. in_image b (page_free b (omega (arith, some, same b)))));
+        new = with_pages old (all_pages nodes);
+        live = λ b live. others_stay old (all_pages nodes) b (none b live (same b));
+        stand = each_stands (blocks_in (with_pages old (all_pages nodes))) nodes
+            (pages_stand old (all_pages nodes) (λ b. omega (arith, same b, most b, free_now_is_free.once s b)) (λ b some. in_image b (page_free b (omega (arith, some, same b)))));
       }
     where
-      none : (b : ℕ) → IsLive old b → times b (page_blocks (all_pages g.nodes)) ≡ times b (pages_in g.nodes) → times b (page_blocks (all_pages g.nodes)) ≡ 0
-      none b live e = by (times b (pages_in g.nodes)) refl e
+      none : (b : ℕ) → IsLive old b → times b (page_blocks (all_pages nodes)) ≡ times b (pages_in nodes) → times b (page_blocks (all_pages nodes)) ≡ 0
+      none b live e = by (times b (pages_in nodes)) refl e
         where
-          by : (n : ℕ) → times b (pages_in g.nodes) ≡ n → times b (page_blocks (all_pages g.nodes)) ≡ times b (pages_in g.nodes) → times b (page_blocks (all_pages g.nodes)) ≡ 0
+          by : (n : ℕ) → times b (pages_in nodes) ≡ n → times b (page_blocks (all_pages nodes)) ≡ times b (pages_in nodes) → times b (page_blocks (all_pages nodes)) ≡ 0
           by zero is e = e ∙ is
           by (suc n) is e = absurd ((page_free b (omega (arith, is))).not_live live)
+
+-- ---- all of it
+
+module _ (r : Rules) (m : Machine) (old : List Block) (blocks : ℕ) (s : PointState) (g : Gathered) (shares : SharesNothing r) (holds : HoldsPoint r m old s) (sized : IsOfSize blocks s) (gathered : IsGathered s g) where
+  pub layout_is : layout_of s.geometry ≡ layout_in old
+  layout_is = sym (ap (λ x. layout_of x) sized.root) ∙ ap (λ (x : Root). x.layout) holds.root
+
+  pub lines_are : AreFreshLines m g.lines
+  lines_are = record { spots = gathered.spots ∙ holds.staged.dirty; longest = gathered.longest }
+
+  pub reported : IsReport r m (fresh_report r m g.lines)
+  reported = lines_reported r m old blocks s g.lines (pages_in g.nodes ++ g.left) shares holds sized lines_are gathered.parted
+
+  pub told : fresh_in (fresh_report r m g.lines) ≡ blocks_told g.lines
+  told = lines_told r m old blocks s g.lines (pages_in g.nodes ++ g.left) shares holds sized lines_are gathered.parted
+
+  pub has_pages : HasPages old g.nodes
+  has_pages = some_pages r m old blocks s g.nodes holds sized (λ b. omega (arith, gathered.parted b, times_append b (pages_in g.nodes) g.left))

@@ -20,3 +20,5 @@ pub mod FreeBlocks
 pub mod NumberPlanned
 pub mod NodesPlanned
 pub mod NodesLoop
+pub mod RestedLaws
+pub mod ShortLaws

@@ -251,6 +251,7 @@ module _ (tells : Bool) (old : List Block) (s : PointState) (numbers : List ℕ)
     listed = far.listed;
     rest = left;
     taken = far.taken;
+    plans = far.plans;
     planned = far.over;
     short = omega (arith, few, ap length far.taken, length-append (pages_in nodes) left, need);
   }

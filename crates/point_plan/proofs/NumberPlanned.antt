@@ -49,7 +49,7 @@ slots_up_to seen Unused = refl
 slots_up_to seen (File size height ptr) = refl
 slots_up_to seen (Directory width height ptr) = refl
 
-image_slots : (old : List Block) (n : ℕ) → slots_or_none (slots_before old n) ≡ take (width_in (inode_before old n)) (slots_seen (seen old) n)
+pub image_slots : (old : List Block) (n : ℕ) → slots_or_none (slots_before old n) ≡ take (width_in (inode_before old n)) (slots_seen (seen old) n)
 image_slots old n = slots_up_to (slots_seen (seen old) n) (inode_before old n)
 
 module _ (s : PointState) (n : ℕ) (was : Inode) (before : List Slot) (is_was : was ≡ inode_of s.inodes.inodes n) (is_before : before ≡ slots_or_none (slots_at s.directories n)) where

@@ -66,5 +66,6 @@ pub record StopsShort (tells : Bool) (old : List Block) (s : PointState) (number
   pub listed : numbers_in nodes ≡ take place numbers
   pub rest : List ℕ
   pub taken : pages_in nodes ++ rest ≡ free
+  pub plans : All (IsPlanOf s) nodes
   pub planned : All (IsPlanWhereTold tells old s numbers changes) nodes
   pub short : length free < length (pages_in nodes) + need_at s numbers changes place
