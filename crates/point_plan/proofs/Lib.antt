@@ -1,5 +1,12 @@
 pub mod PreparedLaws
 pub mod AreaLaws
+pub mod LongLaws
+pub mod NowLaws
+pub mod OverLaws
+pub mod FinishedLaws
+pub mod LinesWithin
+pub mod SettledLaws
+pub mod WrittenWithin
 pub mod TotalLaws
 pub mod WithinLaws
 pub mod RoomLaws

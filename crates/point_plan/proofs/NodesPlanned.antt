@@ -77,15 +77,15 @@ directory_there old s n width height ptr stands is =
 
 -- ---- numbers of which nothing is staged
 
-left_none : (a b : Bool) → (a || b) ≡ false → a ≡ false
+pub left_none : (a b : Bool) → (a || b) ≡ false → a ≡ false
 left_none true b e = cc
 left_none false b e = refl
 
-right_none : (a b : Bool) → (a || b) ≡ false → b ≡ false
+pub right_none : (a b : Bool) → (a || b) ≡ false → b ≡ false
 right_none true b e = cc
 right_none false b e = e
 
-no_node : (nodes : List (ℕ × NodeChange)) (n : ℕ) → is_among (map (λ e. e.0) nodes) n ≡ false → find nat_cmp n nodes ≡ None
+pub no_node : (nodes : List (ℕ × NodeChange)) (n : ℕ) → is_among (map (λ e. e.0) nodes) n ≡ false → find nat_cmp n nodes ≡ None
 no_node [] n out = refl
 no_node (e ∷ es) n out = ap (λ (t : Bool). cond t (Some e.1) (find nat_cmp n es)) (by (eq_by_cmp nat_cmp n e.0) refl) ∙ no_node es n (right_none _ _ out)
   where
@@ -96,7 +96,7 @@ no_node (e ∷ es) n out = ap (λ (t : Bool). cond t (Some e.1) (find nat_cmp n 
         absurd (grind (arith, nat_tests))
     by false tied = refl
 
-no_width : {T : Type 0} → (es : Entries T) (n : ℕ) → is_among (numbers_staged es) n ≡ false → width_of es n ≡ 0
+pub no_width : {T : Type 0} → (es : Entries T) (n : ℕ) → is_among (numbers_staged es) n ≡ false → width_of es n ≡ 0
 no_width [] n out = refl
 no_width (e ∷ es) n out = ap (λ (t : Bool). cond t (max (e.0.1 + 1) (width_of es n)) (width_of es n)) (left_none _ _ out) ∙ no_width es n (right_none _ _ out)
 

@@ -13,3 +13,4 @@ pub mod PutTogether
 pub mod NoRoom
 pub mod Room
 pub mod Rested
+pub mod PutFrom

@@ -15,6 +15,7 @@ pub(crate) fn count_pointers(counts: &mut CountTable, nodes: &[PlannedNode], ino
     ensures moved { (b : ℕ) → b < length counts.old.counts → IsCountable nodes.now inodes.now (slice_index counts.old.counts b) b
         → slice_index counts.old.counts b + times b (inodes.now.added ++ all_added nodes.now) ≡ slice_index counts.new.counts b + times b (inodes.now.dropped ++ all_dropped nodes.now) }
     ensures long { length counts.new.counts ≡ length counts.old.counts }
+    ensures touched { length counts.new.touched ≡ length counts.old.touched }
     ensures kept { (read : Blocks) (homes : _) → IsKept read homes counts.old → IsKept read homes counts.new }
 {
     count_added(counts, inodes.added.as_slice());
@@ -28,6 +29,7 @@ fn count_nodes_added(counts: &mut CountTable, nodes: &[PlannedNode])
     ensures counted { (b : ℕ) → b < length counts.old.counts → (1 ≤ times b (all_added nodes.now) → slice_index counts.old.counts b + times b (all_added nodes.now) < 2 ^ 32)
         → slice_index counts.new.counts b ≡ slice_index counts.old.counts b + times b (all_added nodes.now) }
     ensures long { length counts.new.counts ≡ length counts.old.counts }
+    ensures touched { length counts.new.touched ≡ length counts.old.touched }
     ensures kept { (read : Blocks) (homes : _) → IsKept read homes counts.old → IsKept read homes counts.new }
 {
     for node in nodes {
@@ -40,6 +42,7 @@ fn count_nodes_dropped(counts: &mut CountTable, nodes: &[PlannedNode])
     ensures counted { (b : ℕ) → b < length counts.old.counts → times b (all_dropped nodes.now) ≤ slice_index counts.old.counts b
         → slice_index counts.new.counts b + times b (all_dropped nodes.now) ≡ slice_index counts.old.counts b }
     ensures long { length counts.new.counts ≡ length counts.old.counts }
+    ensures touched { length counts.new.touched ≡ length counts.old.touched }
     ensures kept { (read : Blocks) (homes : _) → IsKept read homes counts.old → IsKept read homes counts.new }
 {
     for node in nodes {
@@ -52,6 +55,7 @@ fn count_added(counts: &mut CountTable, added: &[BlockNo])
     ensures counted { (b : ℕ) → b < length counts.old.counts → (1 ≤ times b added.now → slice_index counts.old.counts b + times b added.now < 2 ^ 32)
         → slice_index counts.new.counts b ≡ slice_index counts.old.counts b + times b added.now }
     ensures long { length counts.new.counts ≡ length counts.old.counts }
+    ensures touched { length counts.new.touched ≡ length counts.old.touched }
     ensures kept { (read : Blocks) (homes : _) → IsKept read homes counts.old → IsKept read homes counts.new }
 {
     for b in added {
@@ -64,6 +68,7 @@ fn count_dropped(counts: &mut CountTable, dropped: &[BlockNo])
     ensures counted { (b : ℕ) → b < length counts.old.counts → times b dropped.now ≤ slice_index counts.old.counts b
         → slice_index counts.new.counts b + times b dropped.now ≡ slice_index counts.old.counts b }
     ensures long { length counts.new.counts ≡ length counts.old.counts }
+    ensures touched { length counts.new.touched ≡ length counts.old.touched }
     ensures kept { (read : Blocks) (homes : _) → IsKept read homes counts.old → IsKept read homes counts.new }
 {
     for b in dropped {
@@ -76,6 +81,7 @@ fn count_one(counts: &mut CountTable, b: BlockNo)
     ensures counted { b < length counts.old.counts → slice_index counts.old.counts b + 1 < 2 ^ 32 → slice_index counts.new.counts b ≡ slice_index counts.old.counts b + 1 }
     ensures others { (c : ℕ) → c ≢ b → slice_index counts.new.counts c ≡ slice_index counts.old.counts c }
     ensures long { length counts.new.counts ≡ length counts.old.counts }
+    ensures touched { length counts.new.touched ≡ length counts.old.touched }
     ensures kept { (read : Blocks) (homes : _) → IsKept read homes counts.old → IsKept read homes counts.new }
 {
     if b as usize >= counts.as_slice().len() {
@@ -92,6 +98,7 @@ fn drop_one(counts: &mut CountTable, b: BlockNo)
     ensures counted { b < length counts.old.counts → 1 ≤ slice_index counts.old.counts b → slice_index counts.new.counts b + 1 ≡ slice_index counts.old.counts b }
     ensures others { (c : ℕ) → c ≢ b → slice_index counts.new.counts c ≡ slice_index counts.old.counts c }
     ensures long { length counts.new.counts ≡ length counts.old.counts }
+    ensures touched { length counts.new.touched ≡ length counts.old.touched }
     ensures kept { (read : Blocks) (homes : _) → IsKept read homes counts.old → IsKept read homes counts.new }
 {
     if b as usize >= counts.as_slice().len() {

@@ -1,5 +1,5 @@
 //! What memory is given once nothing can fail any more.
-ghost use Rattle.std.specs.Prelude.{◌≡◌, ◌+◌, ◌^◌, ◌%◌, ℕ, true, is_some};
+ghost use Rattle.std.specs.Prelude.{◌≡◌, ◌+◌, ◌^◌, ◌%◌, ℕ, true, is_some, length};
 ghost use Rattle.block_format.specs.Root.{HasGeometry, root_of};
 ghost use Rattle.count_pairs.specs.Homes.{Blocks};
 ghost use Rattle.count_pairs.specs.Table.{IsKept};
@@ -33,6 +33,7 @@ pub(crate) fn finish(
     ensures plan { result ≡ made_plan gathered rewritten result.root 0 }
     ensures root { IsRootAfter state.old.current.body rewritten.root.ptr result.root }
     ensures counts { AreCountsRenewed state.old.counts.counts state.new.counts.counts gathered rewritten }
+    ensures touched { length state.new.counts.touched ≡ length state.old.counts.touched }
     ensures kept { (read : Blocks) (homes : _) → IsKept read homes state.old.counts → IsKept read homes state.new.counts }
     ensures directories { (n : ℕ) → slots_at state.new.directories n ≡ finished (planned_of gathered.nodes n) (slots_at fresh.old n) (slots_at state.old.directories n) }
     ensures rest { state.new ≡ record state.old { counts = state.new.counts; directories = state.new.directories; metadata = metadata } }

@@ -36,6 +36,25 @@ pub(crate) struct Gathered {
     pub dirty: u32,
 }
 
+/// Reads and takes what a plan is made of: fresh blocks for the dirty places, and a plan of each staged number. It writes nothing.
+pub(crate) fn gather<D: Disk>(
+    alloc: Global,
+    disk: &mut D,
+    state: &PointState,
+) -> Result<Gathered, PlanFault>
+    requires size { IsOfSize (D.fixed disk.old).size state.now }
+    ensures gathered { IfOk result (IsGathered state.now) }
+    ensures over { IfOk result (λ g. IsTrue D.tells → (r : Rules) (m : Machine) → SharesNothing r → HoldsPoint r m (D.state disk.old).contents state.now → ArePlannedOver r m (D.state disk.old).contents state.now g) }
+    ensures short { (free : ℕ) → IsErrOf result (Short free) → IsTrue D.tells → (r : Rules) (m : Machine) → SharesNothing r → HoldsPoint r m (D.state disk.old).contents state.now → (is_short m ≡ true) × (free ≡ free_of m) }
+    ensures damaged { (b : ℕ) → IsErrOf result (Damaged b) → IsDamage (layout_of state.now.geometry) D.tells (blocks_in (D.state disk.old).contents) (D.given disk.old) (D.given disk.new) b }
+    ensures same { IsTrue D.tells → D.state disk.new ≡ D.state disk.old }
+    ensures moments { IsTrue D.tells → Adds (D.past disk.old) (D.past disk.new) (λ s. s ≡ D.state disk.old) }
+    ensures fixed { D.fixed disk.new ≡ D.fixed disk.old }
+    ensures cause { HasPlanCause (D.faults disk.old) (D.faults disk.new) result }
+{
+    Err(PlanFault::OutOfMemory)
+}
+
 /// The blocks that the counts in memory call free.
 pub(crate) fn free_blocks(alloc: Global, state: &PointState) -> Result<FreeMap, AllocError>
     requires { (layout_of state.now.geometry).blocks ≤ length state.now.counts.counts }

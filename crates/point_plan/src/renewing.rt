@@ -41,6 +41,7 @@ impl From<AllocError> for RenewFault {
 }
 
 /// How many blocks there may be, and how many are needed besides the inode blocks of after.
+#[derive(Drop)]
 pub(crate) struct Room {
     pub have: u64,
     pub need: u64,

@@ -6,6 +6,7 @@ ghost use Rattle.point_plan.specs.Nodes.{Ascend};
 use crate::PlannedNode;
 
 /// How many blocks of metadata planned nodes had, and how many they are going to have.
+#[derive(Drop)]
 pub(crate) struct Totals {
     pub had: u64,
     pub given: u64,

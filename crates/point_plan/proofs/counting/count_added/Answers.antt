@@ -26,5 +26,6 @@ loop-b-preserved c =
           omega (arith, one.others b other, inv.counted b lt (λ some. let room = fits (omega (arith, more, some)) in omega (arith, more, room)), more))
           (cases_eq b at);
       long = one.long ∙ inv.long;
+      touched = one.touched ∙ inv.touched;
       kept = λ read homes kept. one.kept read homes (inv.kept read homes kept);
     }

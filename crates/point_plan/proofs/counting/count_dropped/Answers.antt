@@ -24,5 +24,6 @@ loop-b-preserved c =
           omega (arith, one.others b other, inv.counted b lt (omega (arith, more, some)), more))
           (cases_eq b at);
       long = one.long ∙ inv.long;
+      touched = one.touched ∙ inv.touched;
       kept = λ read homes kept. one.kept read homes (inv.kept read homes kept);
     }

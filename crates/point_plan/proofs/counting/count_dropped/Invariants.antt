@@ -9,5 +9,6 @@ invariant-loop-b l = record {
   counted : (b : ℕ) → b < length l.fn.counts.counts → times b (take l.b-index l.dropped) ≤ slice_index l.fn.counts.counts b
       → slice_index l.counts.counts b + times b (take l.b-index l.dropped) ≡ slice_index l.fn.counts.counts b;
   long : length l.counts.counts ≡ length l.fn.counts.counts;
+  touched : length l.counts.touched ≡ length l.fn.counts.touched;
   kept : (read : Blocks) (homes : List ℕ) → IsKept read homes l.fn.counts → IsKept read homes l.counts;
 }

@@ -25,6 +25,7 @@ loop-node-preserved c =
           let counted = one.counted b (omega (arith, inv.long, lt)) (λ some. let room = fits (omega (arith, front, some, same, added_less b i nodes)) in omega (arith, front, before, room, same)) in
           omega (arith, counted, front, before, same);
       long = one.long ∙ inv.long;
+      touched = one.touched ∙ inv.touched;
       kept = λ read homes kept. one.kept read homes (inv.kept read homes kept);
     }
 

@@ -25,6 +25,7 @@ loop-node-preserved c =
           let counted = one.counted b (omega (arith, inv.long, lt)) (omega (arith, front, before, some, same)) in
           omega (arith, counted, front, before, same);
       long = one.long ∙ inv.long;
+      touched = one.touched ∙ inv.touched;
       kept = λ read homes kept. one.kept read homes (inv.kept read homes kept);
     }
 

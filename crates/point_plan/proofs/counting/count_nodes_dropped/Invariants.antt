@@ -10,5 +10,6 @@ invariant-loop-node l = record {
   counted : (b : ℕ) → b < length l.fn.counts.counts → times b (all_dropped l.nodes) ≤ slice_index l.fn.counts.counts b
       → slice_index l.counts.counts b + times b (all_dropped l.nodes) ≡ slice_index l.fn.counts.counts b + times b (all_dropped (drop l.node-index l.nodes));
   long : length l.counts.counts ≡ length l.fn.counts.counts;
+  touched : length l.counts.touched ≡ length l.fn.counts.touched;
   kept : (read : Blocks) (homes : List ℕ) → IsKept read homes l.fn.counts → IsKept read homes l.counts;
 }
