@@ -30,9 +30,13 @@ module _ (r : Rules) (m : Machine) (old : List Block) (blocks : ℕ) (s : PointS
 
   -- with too little room for the inodes the point is short
   pub no_room_is_short : HasNoRoom s.inodes.inodes g.nodes (room_had s g) (room_needed s g) (length g.left) → is_short m ≡ true
-  no_room_is_short no =
-      let is : IsCounted m s g no.inodes = counted r m old blocks s g no.inodes shares holds sized gathered over no.are in
-      below (free_of m) need (⊎_elim (λ few. omega (arith, few, is.free, is.dirty, is.metadata)) (λ few. omega (arith, few, is.free, is.dirty, is.pages, is.left)) no.few)
+  no_room_is_short lacks =
+      let is : IsCounted m s g lacks.inodes = counted r m old blocks s g lacks.inodes shares holds sized gathered over lacks.are in
+      below (free_of m) need (⊎_elim (λ few. omega (arith, few, is.free, is.dirty, is.metadata)) (λ few. omega (arith, few, is.free, is.dirty, is.pages, is.left)) lacks.few)
+
+  -- and what is told of its free blocks is so
+  pub no_room_tells : HasNoRoom s.inodes.inodes g.nodes (room_had s g) (room_needed s g) (length g.left) → g.free ≡ free_of m
+  no_room_tells lacks = sym (counted r m old blocks s g lacks.inodes shares holds sized gathered over lacks.are).free
 
   module _ (after : PointState) (plan : Plan) (put : IsPutFrom s after g plan) where
     is_counted : IsCounted m s g after.inodes.inodes

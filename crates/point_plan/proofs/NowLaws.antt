@@ -169,7 +169,9 @@ module _ (s after : PointState) (nodes : List PlannedNode) (memory : AreFromMemo
 
   within_known : ((k : ℕ) → IsDirectory (slots_in s k)) → (n : ℕ) → IsDirectory (slots_known (planned_of nodes n) n)
   within_known fit n = ⊎_elim
-      (λ found. subst (λ (x : Option PlannedNode). IsDirectory (slots_known x n)) (sym found.1) (either (is_directory (found.0 : PlannedNode).is) (fit (found.0 : PlannedNode).number)))
+      (λ found.
+      let p : PlannedNode = found.0 in
+      subst (λ (x : Option PlannedNode). IsDirectory (slots_known x n)) (sym found.1) (either (is_directory p.is) (fit p.number)))
       (λ none.
       let out : is_among (staged_numbers s.dirty.overlay) n ≡ false = sym (memory.numbers.each n) ∙ none.1 in
       subst (λ (x : Option PlannedNode). IsDirectory (slots_known x n)) (sym none.0) (subst IsDirectory (unstaged_slots s n out) (fit n)))

@@ -16,6 +16,7 @@ use Rattle.inode_file.specs.Inodes.{InodeTable, Stands as InodesStand, inode_of}
 use Rattle.image_model.specs.Stands.{layout_in}
 use Rattle.point_model.specs.Holding.{inode_before}
 use Rattle.held_list.specs.Held.{slots_at}
+use Rattle.held_list.specs.declared.held.Held.{Held}
 use Rattle.point_plan.specs.Carries.{Carries}
 use Rattle.point_plan.specs.Gathered.{ArePlannedOver, IsGathered}
 use Rattle.point_plan.specs.Planning.{IsNextRoot, IsPlan, IsSettled, SharesNothing}
@@ -34,6 +35,11 @@ use Rattle.volume_model.specs.Machine.{Machine, Rules, stored}
 use Rattle.volume_model.specs.Point.{after_point, fresh_in}
 use Rattle.volume_model.specs.Short.{is_short}
 
+-- In this image the numbers have the inodes and the slots that memory has.
+pub record AreSeen (image : List Block) (s : PointState) : Type 0 where
+  pub nodes : (n : ℕ) → inode_of s.inodes.inodes n ≡ inode_before image n
+  pub slots : (n : ℕ) → slots_at s.directories n ≡ slots_before image n
+
 -- the kept counts are those that stand in the homes that the root names
 kept_counts : (image : List Block) (counts : List ℕ) → length counts ≡ 1024 * count_blocks (root_of_image image).layout
     → AllStand (blocks_in image) (root_of_image image).homes (count_blocks (root_of_image image).layout) counts → (seen image).kept ≡ counts
@@ -45,7 +51,8 @@ kept_counts image counts long stand = same 0 (count_blocks (root_of_image image)
     same i (suc n) = ap (λ (cs : List ℕ). words (blocks_in image (home_in (root_of_image image).homes i)) ++ cs) (same (i + 1) n)
 
 module _ (r : Rules) (m : Machine) (old : List Block) (blocks : ℕ) (s after : PointState) (g : Gathered) (plan : Plan) (shares : SharesNothing r) (holds : HoldsPoint r m old s) (sized : IsOfSize blocks s)
-    (gathered : IsGathered s g) (over : ArePlannedOver r m old s g) (put : IsPutFrom s after g plan) (counted : GatheredIsCounted) (law : PutTogetherIsPlan) (rest : PointRests) where
+    (gathered : IsGathered s g) (over : ArePlannedOver r m old s g) (put : IsPutFrom s after g plan) (counted : GatheredIsCounted) (law : PutTogetherIsPlan) (rest : PointRests)
+    (seen_after : (new : List Block) → Carries old new s.dirty.overlay plan after.counts.counts → AreSeen new after) where
   together : IsPutTogether r m old blocks s after g put.rewritten plan.root 0
   together = record {
     shares = shares;
@@ -91,13 +98,6 @@ module _ (r : Rules) (m : Machine) (old : List Block) (blocks : ℕ) (s after : 
     inodes_stand : InodesStand (blocks_in new) after.inodes
     inodes_stand = put.inodes.stored (blocks_in new) (subst (λ (ps : List Page). Stand ps (blocks_in new)) pages_are carries.inode_pages) stays
 
-    -- owed: the inodes that are seen of the new image, and the slots of its directories
-    nodes_seen : (n : ℕ) → inode_of after.inodes.inodes n ≡ inode_before new n
-    nodes_seen n = ?
-
-    slots_seen : (n : ℕ) → slots_at after.directories n ≡ slots_before new n
-    slots_seen n = ?
-
     held_after : HoldsPoint r (after_point r m (fresh_in plan.report)) new settled
     held_after = record {
       stands = rests.stands;
@@ -107,8 +107,8 @@ module _ (r : Rules) (m : Machine) (old : List Block) (blocks : ℕ) (s after : 
       root = is.root;
       counts = is.counts ∙ sym counts_kept;
       inodes = subst (λ (t : InodeTable). InodesStand (blocks_in new) t) (sym is.inodes) inodes_stand;
-      nodes = λ n. ap (λ (t : InodeTable). inode_of t.inodes n) is.inodes ∙ nodes_seen n;
-      directories = λ n. ap (λ ds. slots_at ds n) is.directories ∙ slots_seen n;
+      nodes = λ n. ap (λ (t : InodeTable). inode_of t.inodes n) is.inodes ∙ (seen_after new carries).nodes n;
+      directories = λ n. ap (λ (ds : List Held). slots_at ds n) is.directories ∙ (seen_after new carries).slots n;
       metadata = rests.metadata;
     }
 

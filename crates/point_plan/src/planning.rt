@@ -26,7 +26,7 @@ use crate::laws::point_rests;
 use crate::plan_laws::{gathered_is_counted, put_together_is_plan};
 use crate::preparing::{Prepared, prepare};
 use crate::renewing::{RenewFault, Room};
-use crate::totals::totals_of;
+use crate::totals::{totals_of, wide};
 use crate::{Plan, PlanFault, PointState};
 use disk_model::Disk;
 use inode_file::InodeFile;
@@ -55,8 +55,10 @@ pub fn plan<D: Disk>(alloc: Global, disk: &mut D, state: &mut PointState) -> Res
     gathered_is_counted();
     put_together_is_plan();
     point_rests();
-    let gathered = gather(alloc, disk, state)?;
-    put_together(alloc, state, gathered)
+    match gather(alloc, disk, state) {
+        Ok(gathered) => put_together(alloc, state, gathered),
+        Err(fault) => Err(fault),
+    }
 }
 
 /// Makes a plan of what was gathered, and gives memory what it is after the plan. A failure leaves all as it was.
@@ -99,10 +101,10 @@ fn room_for(state: &PointState, gathered: &Gathered) -> Room
     ensures small { result.need < 2 ^ 63 }
 {
     let totals = totals_of(gathered.nodes.as_slice());
-    let used = u64::from(state.inodes.used_blocks());
+    let used = wide(state.inodes.used_blocks());
     Room {
-        have: u64::from(gathered.free) + (totals.had + used),
-        need: u64::from(state.metadata) + totals.given + u64::from(gathered.dirty) + 16,
+        have: wide(gathered.free) + (totals.had + used),
+        need: wide(state.metadata) + totals.given + wide(gathered.dirty) + 16,
     }
 }
 
@@ -113,8 +115,8 @@ fn metadata_after(inodes: &InodeFile, gathered: &Gathered, room: &Room) -> u32
     requires room { room.now.need + used_positions inodes.now.inodes ≤ room.now.have }
     ensures { result ≡ (room.now.need - (gathered.now.dirty + 16) + used_positions inodes.now.inodes) - (room.now.have - gathered.now.free) }
 {
-    let used = u64::from(inodes.used_blocks());
-    let given = room.need - (u64::from(gathered.dirty) + 16) + used;
-    let had = room.have - u64::from(gathered.free);
+    let used = wide(inodes.used_blocks());
+    let given = room.need - (wide(gathered.dirty) + 16) + used;
+    let had = room.have - wide(gathered.free);
     given.saturating_sub(had) as u32
 }

@@ -30,7 +30,7 @@ pub(crate) fn totals_of(nodes: &[PlannedNode]) -> Totals
 }
 
 /// The same number.
-fn wide(n: u32) -> u64
+pub(crate) fn wide(n: u32) -> u64
     ensures same { result ≡ n }
     ensures small { result < 2 ^ 32 }
 {
