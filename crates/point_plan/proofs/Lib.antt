@@ -3,7 +3,6 @@ pub mod AreaLaws
 pub mod LongLaws
 pub mod NowLaws
 pub mod OverLaws
-pub mod FinishedLaws
 pub mod LinesWithin
 pub mod SettledLaws
 pub mod WrittenWithin
