@@ -203,6 +203,29 @@ module _ (r : Rules) (m : Machine) (old : List Block) (blocks : ℕ) (s after : 
     counts_stand = carries.counts_stand;
   })
 
+  pub planned_inode : (new : List Block) (carries : Carries old new s.dirty.overlay plan after.counts.counts) (n : ℕ) → (planned_for new carries).inode n ≡ inode_of after.inodes.inodes n
+  unfolding planned_for
+  planned_inode new carries n = made_inode r m old new blocks s after.inodes after.counts.counts known w put.holds put.sized is_report made (record {
+    live = carries.live;
+    nodes = carries.nodes;
+    inode_pages = carries.inode_pages;
+    lines = carries.lines;
+    there = carries.there;
+    fits = carries.fits;
+    root = carries.root;
+    counts_stand = carries.counts_stand;
+  }) n
+
+  -- what is seen of such an image is what is planned
+  pub seen_planned : PlannedIsSeen → is_short m ≡ false → (new : List Block) → Carries old new s.dirty.overlay plan after.counts.counts → IsSeenAsPlanned old new s.dirty.overlay (inode_of after.inodes.inodes)
+  seen_planned seen long new carries =
+      let is = seen r old new s.dirty.overlay m known.report
+      (record { stands = put.holds.stands; holds = put.holds.staged; coherent = put.holds.coherent; is_report = is_report; long = long }) (planned_for new carries) in
+      record {
+        inodes = λ n. is.inodes n ∙ planned_inode new carries n;
+        slots = λ n width height ptr has. is.slots n width height ptr (planned_inode new carries n ∙ has);
+      }
+
   pub stands : PlannedStands → is_short m ≡ false → (new : List Block) → Carries old new s.dirty.overlay plan after.counts.counts → Stands new (stored (after_point r m fresh))
   stands planned_stands long new carries = planned_stands r old new s.dirty.overlay m known.report
       (record { stands = put.holds.stands; holds = put.holds.staged; coherent = put.holds.coherent; is_report = is_report; long = long }) (planned_for new carries)

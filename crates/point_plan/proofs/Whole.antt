@@ -30,3 +30,10 @@ made_is_planned r m old new blocks s t counts plan w holds size report made carr
     let stays = table_stands old new (stored m) s.inodes holds.stands carries.live size.table holds.inodes index in
     point_is_planned old new o m placed fresh s.inodes t s.counts.counts counts plan w holds.stands made carries holds.nodes size.table holds.inodes index zero holds.counts long stays
     (lines_written r m plan.report holds.coherent report o (blocks_in new) carries.lines)
+
+-- its inodes are those of the table
+pub made_inode : (r : Rules) (m : Machine) (old new : List Block) (blocks : ℕ) (s : PointState) (t : InodeTable) (counts : List ℕ) (plan : Plan) (w : Rewritten)
+    (holds : HoldsPoint r m old s) (size : IsOfSize blocks s) (report : IsReport r m plan.report) (made : IsMadeFor r m old s t counts plan w) (carries : Carries old new s.dirty.overlay plan counts)
+    (n : ℕ) → (made_is_planned r m old new blocks s t counts plan w holds size report made carries).inode n ≡ inode_of t.inodes n
+unfolding made_is_planned point_is_planned
+made_inode r m old new blocks s t counts plan w holds size report made carries n = refl
