@@ -20,3 +20,4 @@ pub mod FreeBlocks
 pub mod NumberPlanned
 pub mod NodesPlanned
 pub mod NodesLoop
+pub mod RestedLaws

@@ -12,3 +12,4 @@ pub mod Cause
 pub mod PutTogether
 pub mod NoRoom
 pub mod Room
+pub mod Rested

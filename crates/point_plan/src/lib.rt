@@ -18,7 +18,7 @@ mod totals;
 
 pub use fault::PlanFault;
 pub use free::free_now_is_free;
-pub use laws::made_is_planned;
+pub use laws::{coherence_stays, made_is_planned, point_rests};
 pub use planned::Plan;
 pub use planned_node::{PlannedNode, PlannedNodeList};
 pub use state::PointState;
