@@ -1,5 +1,5 @@
 -- The changes that fresh lines make, number by number.
-use Rattle.std.proofs.Common.{◌≡◌, ℕ, zero, suc, ◌+◌, ◌<◌, ◌≤◌, Bool, true, false, cond, List, [], ◌∷◌, ◌++◌, length, drop, get_or, map, take, refl, sym, ap, subst, ◌∙◌, inr, arith}
+use Rattle.std.proofs.Common.{◌≡◌, ℕ, ◌+◌, ◌<◌, ◌≤◌, Bool, true, false, cond, List, [], ◌∷◌, ◌++◌, drop, map, take, refl, sym, ap, subst, ◌∙◌, inr, arith}
 use Rattle.std.specs.Prelude.{◌||◌, ◌&&◌, nat_eq, All, filter}
 use Rattle.std.specs.List.{AllZip, flat_map}
 use Rattle.std.proofs.lemmas.Bool.Decides.{nat_tests}
@@ -13,7 +13,6 @@ use Rattle.vol_numbers.specs.declared.runs.Change.{Change}
 use Rattle.block_format.specs.Index.{IsPointer}
 use Rattle.block_tree.specs.Notes.{change_blocks}
 use Rattle.block_tree.specs.Pages.{LeadInto}
-use Rattle.dirty_store.specs.Laws.{dirty_spots}
 use Rattle.fresh_runs.specs.Fresh.{as_changes, blocks_in as blocks_told, changes_of}
 use Rattle.fresh_runs.specs.Laws.{AreFreshLines, fresh_report}
 use Rattle.fresh_runs.proofs.OfPlaces.{changes_are_of_places}
@@ -22,7 +21,6 @@ use Rattle.place_words.specs.Rising.{Rising}
 use Rattle.place_words.proofs.Counting.{times_among}
 use Rattle.point_model.specs.NodePlan.{AreOfPlaces}
 use Rattle.point_plan.specs.Free.{free_now}
-use Rattle.point_plan.specs.PlacedFresh.{ArePlacedFresh}
 use Rattle.point_plan.specs.PlanNodes.{AreAllOfPlaces, AreAtDirty}
 use Rattle.point_plan.specs.Planning.{SharesNothing}
 use Rattle.point_plan.specs.State.{HoldsPoint, IsOfSize}
@@ -34,7 +32,7 @@ use Rattle.tree_model.specs.declared.report.Line.{Line}
 use Rattle.volume_model.specs.Lines.{lines_places}
 use Rattle.volume_model.specs.Machine.{Machine, Rules}
 use Rattle.volume_model.specs.Places.{Places, Spot, blocks_of, has_spot, spot_eq, spots_of}
-use Rattle.volume_model.specs.Point.{fresh_in, placed_after}
+use Rattle.volume_model.specs.Point.{placed_after}
 
 spot_self : (a : Spot) → spot_eq a a ≡ true
 spot_self a =

@@ -1,5 +1,5 @@
 -- Faults that are passed on, of points that are short.
-use Rattle.std.proofs.Common.{◌≡◌, ℕ, refl, sym, ap, ◌∙◌}
+use Rattle.std.proofs.Common.{◌≡◌, ℕ, refl}
 use Rattle.std.specs.Prelude.{Result, Ok, Err, IsErrOf, IsErrAnd}
 use Rattle.node_plan.specs.declared.fault.NodeFault.{NodeFault}
 use Rattle.node_plan.specs.declared.fault.NodeFault.TheVariants as nodes

@@ -1,4 +1,4 @@
-use Rattle.std.proofs.Common.{◌≡◌, ◌≤◌, ◌+◌, ◌++◌, ℕ, List, length, sym, ap, subst, ◌∙◌, arith}
+use Rattle.std.proofs.Common.{ℕ, List, sym, ap, subst, ◌∙◌, arith}
 use Rattle.std.specs.Prelude.{Err}
 use Rattle.vol_numbers.specs.declared.runs.Change.{Change}
 use Rattle.dirty_store.specs.Laws.{dirty_spots}
@@ -54,8 +54,7 @@ returns-in-Ok-clause-over g c = λ tells r m shares holds.
 pub returns-in-Err-clause-short : goal.returns-in-Err-clause-short
 returns-in-Err-clause-short g c = λ free is tells r m shares holds.
     let at = was_short c.in-Err.fault c.node_fault.result c.args.free free c.node_fault.ensures is in
-    let stop = subst (λ (cs : List (List Change)). StopsShort g.D.Disk.tells (g.D.Disk.state c.args.disk.now).contents c.args.state.now c.args.numbers.now cs c.args.placed.left) c.deref.ensures.value (c.in-Err.ensures.short (ap Err at.0)) in
-    (
-        c.short_points.ensures.nodes r m _ _ c.args.state.now c.args.numbers.now c.args.placed g.D.Disk.tells shares holds c.requires.size c.requires.numbers c.requires.placed stop tells,
-        at.1 ∙ c.requires.free ∙ c.short_points.ensures.free r m _ _ c.args.state.now holds c.requires.size,
+    let stop = subst (λ (cs : List (List Change)). StopsShort g.D.Disk.tells (g.D.Disk.state c.args.disk.now).contents c.args.state.now c.args.numbers.now cs c.args.placed.left) c.deref.ensures.value (c.in-Err.ensures.short (ap Err at.0)) in (
+      c.short_points.ensures.nodes r m _ _ c.args.state.now c.args.numbers.now c.args.placed g.D.Disk.tells shares holds c.requires.size c.requires.numbers c.requires.placed stop tells,
+      at.1 ∙ c.requires.free ∙ c.short_points.ensures.free r m _ _ c.args.state.now holds c.requires.size,
     )
