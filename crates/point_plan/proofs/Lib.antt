@@ -1,4 +1,5 @@
 pub mod PreparedLaws
+pub mod AreaLaws
 pub mod TotalLaws
 pub mod WithinLaws
 pub mod RoomLaws

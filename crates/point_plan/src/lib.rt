@@ -12,6 +12,7 @@ mod nodes;
 mod plan_laws;
 mod planned;
 mod planned_node;
+mod preparing;
 mod renewing;
 mod state;
 mod totals;
