@@ -1,13 +1,11 @@
 -- The changes that fresh lines make, number by number.
-use Rattle.std.proofs.Common.{◌≡◌, ℕ, ◌+◌, ◌<◌, ◌≤◌, Bool, true, false, cond, List, [], ◌∷◌, ◌++◌, drop, map, take, refl, sym, ap, subst, ◌∙◌, inr, arith}
+use Rattle.std.proofs.Common.{◌≡◌, ℕ, ◌+◌, ◌<◌, ◌≤◌, Bool, true, false, cond, List, [], ◌∷◌, ◌++◌, map, refl, sym, ap, subst, ◌∙◌, inr, arith}
 use Rattle.std.specs.Prelude.{◌||◌, ◌&&◌, nat_eq, All, filter}
 use Rattle.std.specs.List.{AllZip, flat_map}
 use Rattle.std.proofs.lemmas.Bool.Decides.{nat_tests}
-use Rattle.std.proofs.lemmas.List.{length-drop, length-take}
 use Rattle.std.proofs.lemmas.List.Concat.{flat_map-cons}
 use Rattle.std.proofs.lemmas.List.Elements.{All-nil, All-cons, All-head, All-tail}
 use Rattle.vol_numbers.specs.Geometry.{layout_of}
-use Rattle.vol_numbers.specs.Layout.{Layout, area_start}
 use Rattle.vol_numbers.specs.declared.block.Block.{Block}
 use Rattle.vol_numbers.specs.declared.runs.Change.{Change}
 use Rattle.block_format.specs.Index.{IsPointer}
@@ -16,16 +14,15 @@ use Rattle.block_tree.specs.Pages.{LeadInto}
 use Rattle.fresh_runs.specs.Fresh.{as_changes, blocks_in as blocks_told, changes_of}
 use Rattle.fresh_runs.specs.Laws.{AreFreshLines, fresh_report}
 use Rattle.fresh_runs.proofs.OfPlaces.{changes_are_of_places}
-use Rattle.place_words.specs.Different.{is_among, times, total}
+use Rattle.place_words.specs.Different.{times, total}
 use Rattle.place_words.specs.Rising.{Rising}
-use Rattle.place_words.proofs.Counting.{times_among}
 use Rattle.point_model.specs.NodePlan.{AreOfPlaces}
 use Rattle.point_plan.specs.Free.{free_now}
 use Rattle.point_plan.specs.PlanNodes.{AreAllOfPlaces, AreAtDirty}
 use Rattle.point_plan.specs.Planning.{SharesNothing}
 use Rattle.point_plan.specs.State.{HoldsPoint, IsOfSize}
 use Rattle.point_plan.specs.declared.state.PointState.{PointState}
-use Rattle.point_plan.proofs.FreeBlocks.{zero_of}
+use Rattle.point_plan.proofs.AreaLaws.{all_counted, free_in_area}
 use Rattle.point_plan.proofs.GatheredLaws.{lines_reported, lines_told}
 use Rattle.point_plan.proofs.Times.{times_append}
 use Rattle.tree_model.specs.declared.report.Line.{Line}
@@ -90,34 +87,14 @@ all_mapped : (P : List Change → Type 0) (f : ℕ → List Change) → ((n : �
 all_mapped P f each [] = All-nil P
 all_mapped P f each (n ∷ ns) = All-cons P (f n) (map f ns) (each n) (all_mapped P f each ns)
 
-all_of_times : (P : ℕ → Type 0) (all xs : List ℕ) → ((b : ℕ) → is_among all b ≡ true → P b) → ((b : ℕ) → times b xs ≤ times b all) → All P xs
-all_of_times P all [] each most = All-nil P
-all_of_times P all (x ∷ xs) each most = All-cons P x xs (each x (times_among x all (some (most x)))) (all_of_times P all xs each (λ b. less b (most b)))
-  where
-    self : nat_eq x x ≡ true
-    self = grind (arith, nat_tests)
-
-    some : times x (x ∷ xs) ≤ times x all → 1 ≤ times x all
-    some le = let one : times x (x ∷ xs) ≡ 1 + times x xs = ap (λ (t : Bool). cond t 1 0 + times x xs) self in omega (arith, le, one)
-
-    less : (b : ℕ) → times b (x ∷ xs) ≤ times b all → times b xs ≤ times b all
-    less b le = omega (arith, le)
-
--- a free block is one of the area
-free_pointer : (blocks : ℕ) (s : PointState) → IsOfSize blocks s → (b : ℕ) → is_among (free_now s) b ≡ true → IsPointer (layout_of s.geometry) b
-free_pointer blocks s sized b among =
-    let l : Layout = layout_of s.geometry in
-    let at = zero_of (drop (area_start l) (take l.blocks s.counts.counts)) (area_start l) b among in
-    inr (at.from, omega (arith, at.from, at.to, length-drop (area_start l) (take l.blocks s.counts.counts), length-take l.blocks s.counts.counts))
-
-module _ (blocks : ℕ) (s : PointState) (numbers : List ℕ) (lines : List Line) (left : List ℕ) (changes : List (List Change)) (sized : IsOfSize blocks s) (parted : (b : ℕ) → times b (blocks_told lines) + times b left ≡ times b (free_now s))
+module _ (s : PointState) (numbers : List ℕ) (lines : List Line) (left : List ℕ) (changes : List (List Change)) (parted : (b : ℕ) → times b (blocks_told lines) + times b left ≡ times b (free_now s))
     (are : changes ≡ map (changes_of (lines_places lines)) numbers) where
   pub left_point : All (IsPointer (layout_of s.geometry)) left
-  left_point = all_of_times (IsPointer (layout_of s.geometry)) (free_now s) left (free_pointer blocks s sized) (λ b. omega (arith, parted b))
+  left_point = all_counted (IsPointer (layout_of s.geometry)) (free_now s) left (λ b among. inr (free_in_area s b among)) (λ b. omega (arith, parted b))
 
   pub changes_point : All (LeadInto (layout_of s.geometry)) changes
   changes_point =
-      let told : All (IsPointer (layout_of s.geometry)) (blocks_told lines) = all_of_times (IsPointer (layout_of s.geometry)) (free_now s) (blocks_told lines) (free_pointer blocks s sized) (λ b. omega (arith, parted b)) in
+      let told : All (IsPointer (layout_of s.geometry)) (blocks_told lines) = all_counted (IsPointer (layout_of s.geometry)) (free_now s) (blocks_told lines) (λ b among. inr (free_in_area s b among)) (λ b. omega (arith, parted b)) in
       subst (λ (cs : List (List Change)). All (LeadInto (layout_of s.geometry)) cs) (sym are)
       (all_mapped (LeadInto (layout_of s.geometry)) (changes_of (lines_places lines)) (λ n. changes_lead (IsPointer (layout_of s.geometry)) (lines_places lines) n told) numbers)
 

@@ -33,8 +33,8 @@ returns-in-Ok-clause-gathered g c =
         shapes = is.shapes;
         were_shapes = is.were_shapes;
         kinds = is.kinds;
-        whole = is.begins (left_point _ c.args.state.now c.args.numbers.now c.args.placed.lines c.args.placed.left c.deref.result.now c.requires.size placed.parted changes)
-            (changes_point _ c.args.state.now c.args.numbers.now c.args.placed.lines c.args.placed.left c.deref.result.now c.requires.size placed.parted changes);
+        whole = is.begins (left_point c.args.state.now c.args.numbers.now c.args.placed.lines c.args.placed.left c.deref.result.now placed.parted changes)
+            (changes_point c.args.state.now c.args.numbers.now c.args.placed.lines c.args.placed.left c.deref.result.now placed.parted changes);
       };
       used = λ b. omega (arith, is.used b, changes_used c.args.placed.lines c.deref.result.now c.args.numbers.now c.requires.numbers.rises changes b);
     }
