@@ -10,7 +10,8 @@ use Rattle.dirty_store.specs.Overlay.{cut_of}
 use Rattle.node_table.specs.Changes.{LeadsTo}
 use Rattle.node_table.specs.Found.{found, found_of}
 use Rattle.node_table.specs.Held.{Nodes, HoldsNodes, held, info, info_of, slots_of}
-use Rattle.node_table.specs.declared.change.Change.TheVariants.{Made, Removed}
+use Rattle.node_table.specs.declared.change.Change.{Change}
+use Rattle.node_table.specs.declared.change.Change.TheVariants.{Made, Sized, Removed, Renamed}
 use Rattle.node_table.specs.declared.held.FoundNode.{FoundNode}
 use Rattle.node_table.specs.declared.held.HeldNode.{HeldNode}
 use Rattle.node_table.specs.declared.held.HeldNode.TheVariants.{File}
@@ -37,7 +38,7 @@ use Rattle.tree_model.specs.declared.reply.Reply.{Reply}
 use Rattle.volume_model.specs.Done.{is_cut, cut_by, cut_to}
 use Rattle.volume_model.specs.Machine.{Machine}
 use Rattle.volume_model.specs.Places.{Spot}
-use Rattle.command_effect.specs.Effects.{CanDo}
+use Rattle.command_effect.specs.Effects.{CanDo, IsOfNodes}
 
 -- ---- where a table leads, its tree does
 
@@ -114,7 +115,7 @@ module _ (m : Machine) (nodes : Nodes) (h : IsTree m.tree) (files : IsInFiles m)
   made_cuts number e free number_is cut spot is =
       (λ i. is_cut (cut_at (number_is i) (cut i)) spot) ∙ and_none (nat_eq spot.0 number) (nat_le 0 spot.1) (not_its number free spot is)
 
-  pub made_on : (command : Command) (parent slot number : ℕ) (e : Effect) → CanDo command (Made parent slot number) nodes → IsBuiltOf command (Made parent slot number) nodes e → e.touched ≡ []
+  made_on : (command : Command) (parent slot number : ℕ) (e : Effect) → CanDo command (Made parent slot number) nodes → IsBuiltOf command (Made parent slot number) nodes e → e.touched ≡ []
       → IsEffectOn m command e
   made_on (Mkdir path) parent slot number e can built none = touches_none m (Mkdir path) e none refl (made_cuts number e can.1.least.free built.number built.cut)
   made_on (Create path) parent slot number e can built none = touches_none m (Create path) e none refl (made_cuts number e can.1.least.free built.number built.cut)
@@ -134,7 +135,7 @@ module _ (m : Machine) (nodes : Nodes) (h : IsTree m.tree) (files : IsInFiles m)
   cut_node None number spot e = cc
   cut_node (Some node) number spot e = let same : node.number ≡ number = cc in ap (λ (n : ℕ). is_cut (cut_at n (Some 0)) spot) (sym same)
 
-  pub removed_on : (command : Command) (parent slot number : ℕ) (e : Effect) → CanDo command (Removed parent slot number) nodes → e.number ≡ number → e.cut_to ≡ Some 0 → e.touched ≡ []
+  removed_on : (command : Command) (parent slot number : ℕ) (e : Effect) → CanDo command (Removed parent slot number) nodes → e.number ≡ number → e.cut_to ≡ Some 0 → e.touched ≡ []
       → IsEffectOn m command e
   removed_on (Remove path) parent slot number e can number_is cut none =
       let gone = can.1 in
@@ -155,3 +156,25 @@ module _ (m : Machine) (nodes : Nodes) (h : IsTree m.tree) (files : IsInFiles m)
   removed_on Space parent slot number e can number_is cut none = absurd can.1
   removed_on Checkpoint parent slot number e can number_is cut none = absurd can.1
   removed_on End parent slot number e can number_is cut none = absurd can.1
+
+  renamed_on : (command : Command) (number from from_slot to to_slot : ℕ) (e : Effect) → CanDo command (Renamed number from from_slot to to_slot) nodes
+      → IsBuiltOf command (Renamed number from from_slot to to_slot) nodes e → e.touched ≡ [] → IsEffectOn m command e
+  renamed_on (Rename old new) number from from_slot to to_slot e can built none = touches_none m (Rename old new) e none refl (λ spot is. ap (λ (o : Option ℕ). is_cut (cut_at e.number o) spot) built.cut)
+  renamed_on (Mkdir path) number from from_slot to to_slot e can built none = absurd can.1
+  renamed_on (Create path) number from from_slot to to_slot e can built none = absurd can.1
+  renamed_on (Write path offset bytes) number from from_slot to to_slot e can built none = absurd can.1
+  renamed_on (Truncate path size) number from from_slot to to_slot e can built none = absurd can.1
+  renamed_on (Remove path) number from from_slot to to_slot e can built none = absurd can.1
+  renamed_on (Read path offset len) number from from_slot to to_slot e can built none = absurd can.1
+  renamed_on (ListOf path) number from from_slot to to_slot e can built none = absurd can.1
+  renamed_on (Stat path) number from from_slot to to_slot e can built none = absurd can.1
+  renamed_on (Layout path) number from from_slot to to_slot e can built none = absurd can.1
+  renamed_on Space number from from_slot to to_slot e can built none = absurd can.1
+  renamed_on Checkpoint number from from_slot to to_slot e can built none = absurd can.1
+  renamed_on End number from from_slot to to_slot e can built none = absurd can.1
+
+  pub node_on : (command : Command) (change : Change) (e : Effect) → IsOfNodes change → CanDo command change nodes → IsBuiltOf command change nodes e → e.touched ≡ [] → IsEffectOn m command e
+  node_on command (Made parent slot number) e kind can built none = made_on command parent slot number e can built none
+  node_on command (Sized number size) e kind can built none = absurd kind
+  node_on command (Removed parent slot number) e kind can built none = removed_on command parent slot number e can built.number built.cut none
+  node_on command (Renamed number from from_slot to to_slot) e kind can built none = renamed_on command number from from_slot to to_slot e can built none

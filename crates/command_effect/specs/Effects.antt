@@ -6,13 +6,20 @@ use Rattle.dirty_store.specs.declared.effect.Effect.{Effect}
 use Rattle.node_table.specs.Changes.{Does}
 use Rattle.node_table.specs.Held.{Nodes}
 use Rattle.node_table.specs.declared.change.Change.{Change}
-use Rattle.node_table.specs.declared.change.Change.TheVariants.{Sized}
+use Rattle.node_table.specs.declared.change.Change.TheVariants.{Made, Sized, Removed, Renamed}
 use Rattle.point_plan.specs.State.{size_in}
 use Rattle.tree_model.specs.declared.command.Command.{Command}
 
 -- some table comes of the change, which does the command
 abbrev pub CanDo : Command → Change → Nodes → Type 0
 CanDo command change nodes = (new : Nodes) × Does command change nodes new
+
+-- a change of no file's size
+abbrev pub IsOfNodes : Change → Type 0
+IsOfNodes (Made parent slot number) = Unit {0}
+IsOfNodes (Sized number size) = ⊥
+IsOfNodes (Removed parent slot number) = Unit {0}
+IsOfNodes (Renamed number from from_slot to to_slot) = Unit {0}
 
 -- Each touched place is below the number of blocks of the file, and has a whole block.
 pub record ArePlacesWithin (e : Effect) : Type 0 where

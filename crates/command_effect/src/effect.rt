@@ -19,7 +19,7 @@ ghost use Rattle.command_effect.specs.Blocks.{AreFrom, IsCutBlock, IsWrittenBloc
 ghost use Rattle.command_effect.specs.Effects.{ArePlacesWithin, CanDo, IsSizedEffect};
 
 use crate::cutting::cut_places;
-use crate::nodes::{made, removed, renamed};
+use crate::nodes::node_effect;
 use crate::writing::written_places;
 use block_format::Inode;
 use block_tree::TreeFault;
@@ -61,33 +61,10 @@ pub fn effect_of<D: Disk>(
     ensures cause { HasTreeCause (D.faults disk.old) (D.faults disk.new) result }
 {
     match *change {
-        Change::Made {
-            parent,
-            slot,
-            number,
-        } => Ok(made(alloc, command, parent, slot, number)?),
-        Change::Removed {
-            parent,
-            slot,
-            number,
-        } => Ok(removed(alloc, parent, slot, number)?),
-        Change::Renamed {
-            number,
-            from,
-            from_slot,
-            to,
-            to_slot,
-        } => Ok(renamed(
-            alloc,
-            nodes,
-            command,
-            number,
-            (from, from_slot),
-            (to, to_slot),
-        )?),
-        Change::Sized { number, size } => sized_effect(
-            alloc, disk, g, inodes, dirty, nodes, command, number, size,
-        ),
+        Change::Sized { number, size } => {
+            sized_effect(alloc, disk, g, inodes, dirty, nodes, command, number, size)
+        }
+        _ => Ok(node_effect(alloc, nodes, command, change)?),
     }
 }
 

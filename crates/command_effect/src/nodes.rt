@@ -2,23 +2,60 @@
 ghost use Rattle.std.specs.Prelude.{◌≡◌, ◌<◌, ◌∷◌, ◌++◌, false, [], IfOk};
 ghost use Rattle.std.specs.Option.{option_map};
 ghost use Rattle.dirty_store.specs.Overlay.{IsEffect};
+ghost use Rattle.node_table.specs.Changes.{IsChangeWithin};
 ghost use Rattle.node_table.specs.Held.{Nodes, held, info};
 ghost use Rattle.node_table.specs.declared.change.Change.TheVariants.{Made, Removed, Renamed};
 ghost use Rattle.point_model.specs.NodeChanges.{IsBuiltOf};
 ghost use Rattle.point_model.specs.PointPlan.{told};
 ghost use Rattle.tree_model.specs.Path.{is_root, parent_of};
 ghost use Rattle.tree_model.specs.declared.command.Command.{Command};
-ghost use Rattle.command_effect.specs.Effects.{CanDo};
+ghost use Rattle.command_effect.specs.Effects.{CanDo, IsOfNodes};
 
 use block_format::{Inode, Slot};
 use dirty_store::{Effect, SlotChange, SlotChangeList, TouchedList};
-use node_table::{NodeInfo, NodeTable};
+use node_table::{Change, NodeInfo, NodeTable};
 use std::alloc::{AllocError, Global};
 use tree_model::{Command, Path};
 use vol_numbers::{InoNo, Name};
 
+/// What a change does that is of no file's size.
+pub(crate) fn node_effect(
+    alloc: Global,
+    nodes: &NodeTable,
+    command: &Command,
+    change: &Change,
+) -> Result<Effect, AllocError>
+    requires done { CanDo command.now change.now nodes.now }
+    requires rules { IsChangeWithin change.now }
+    requires kind { IsOfNodes change.now }
+    ensures built { IfOk result (IsBuiltOf command.now change.now nodes.now) }
+    ensures effect { IfOk result IsEffect }
+    ensures none { IfOk result (λ e. e.touched ≡ []) }
+{
+    match *change {
+        Change::Made {
+            parent,
+            slot,
+            number,
+        } => Ok(made(alloc, command, parent, slot, number)?),
+        Change::Removed {
+            parent,
+            slot,
+            number,
+        } => Ok(removed(alloc, parent, slot, number)?),
+        Change::Renamed {
+            number,
+            from,
+            from_slot,
+            to,
+            to_slot,
+        } => Ok(renamed(alloc, nodes, command, number, (from, from_slot), (to, to_slot))?),
+        Change::Sized { .. } => unreachable!(),
+    }
+}
+
 /// A new node: it is empty, its number is cut to no block, and its name comes into a slot.
-pub(crate) fn made(
+fn made(
     alloc: Global,
     command: &Command,
     parent: InoNo,
@@ -48,7 +85,7 @@ pub(crate) fn made(
 }
 
 /// A removed node: its number is unused, and cut to no block, and its slot is empty.
-pub(crate) fn removed(
+fn removed(
     alloc: Global,
     parent: InoNo,
     slot: u32,
@@ -69,7 +106,7 @@ pub(crate) fn removed(
 }
 
 /// A renamed node: it stays what it is, its old slot is empty, and its new name comes into a slot.
-pub(crate) fn renamed(
+fn renamed(
     alloc: Global,
     nodes: &NodeTable,
     command: &Command,
