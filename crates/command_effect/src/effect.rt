@@ -1,5 +1,5 @@
 //! The effect of a change.
-ghost use Rattle.std.specs.Prelude.{ℕ, ◌≡◌, ◌≤◌, ◌+◌, None, Some, IfOk, IsTrue, length};
+ghost use Rattle.std.specs.Prelude.{ℕ, ◌≡◌, ◌≤◌, ◌+◌, None, Some, IfOk, IfNone, IfSome, IsTrue, length};
 ghost use Rattle.vol_numbers.specs.Geometry.{layout_of};
 ghost use Rattle.disk_model.specs.Past.{Adds};
 ghost use Rattle.place_words.specs.Different.{up};
@@ -16,7 +16,7 @@ ghost use Rattle.point_model.specs.Staging.{IsEffectOn};
 ghost use Rattle.volume_model.specs.Machine.{Machine, Rules};
 ghost use Rattle.place_read.specs.Holding.{HoldsFiles};
 ghost use Rattle.command_effect.specs.Blocks.{AreFrom, IsCutBlock, IsWrittenBlock, cut_count, written_count};
-ghost use Rattle.command_effect.specs.Effects.{ArePlacesWithin, CanDo, IsSizedEffect};
+ghost use Rattle.command_effect.specs.Effects.{ArePlacesWithin, CanDo, IsOfNodes, IsSizedEffect};
 
 use crate::cutting::cut_places;
 use crate::nodes::node_effect;
@@ -60,11 +60,22 @@ pub fn effect_of<D: Disk>(
     ensures fixed { D.fixed disk.new ≡ D.fixed disk.old }
     ensures cause { HasTreeCause (D.faults disk.old) (D.faults disk.new) result }
 {
-    match *change {
-        Change::Sized { number, size } => {
+    match sized_of(change) {
+        Some((number, size)) => {
             sized_effect(alloc, disk, g, inodes, dirty, nodes, command, number, size)
         }
-        _ => Ok(node_effect(alloc, nodes, command, change)?),
+        None => Ok(node_effect(alloc, nodes, command, change)?),
+    }
+}
+
+/// The file and its new size, where a size changes.
+fn sized_of(change: &Change) -> Option<(InoNo, u64)>
+    ensures sized { IfSome result (λ f. change.now ≡ Sized f.0 f.1) }
+    ensures other { IfNone result (IsOfNodes change.now) }
+{
+    match *change {
+        Change::Sized { number, size } => Some((number, size)),
+        _ => None,
     }
 }
 

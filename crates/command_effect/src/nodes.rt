@@ -49,7 +49,14 @@ pub(crate) fn node_effect(
             from_slot,
             to,
             to_slot,
-        } => Ok(renamed(alloc, nodes, command, number, (from, from_slot), (to, to_slot))?),
+        } => Ok(renamed(
+            alloc,
+            nodes,
+            command,
+            number,
+            (from, from_slot),
+            (to, to_slot),
+        )?),
         Change::Sized { .. } => unreachable!(),
     }
 }
@@ -85,12 +92,7 @@ fn made(
 }
 
 /// A removed node: its number is unused, and cut to no block, and its slot is empty.
-fn removed(
-    alloc: Global,
-    parent: InoNo,
-    slot: u32,
-    number: InoNo,
-) -> Result<Effect, AllocError>
+fn removed(alloc: Global, parent: InoNo, slot: u32, number: InoNo) -> Result<Effect, AllocError>
     requires slot { slot < 65534 }
     ensures built { IfOk result (λ e. (command : Command) (before : Nodes) → CanDo command (Removed parent slot number) before → IsBuiltOf command (Removed parent slot number) before e) }
     ensures effect { IfOk result IsEffect }
