@@ -1,6 +1,5 @@
 //! Images that stand for something, with their numbers.
-use crate::picture::Put;
-use crate::rows::{BLOCKS, Row, SAMPLE, Want, first_wrong};
+use check_rows::{BLOCKS, Put, Row, SAMPLE, Want, first_wrong};
 use std::test::Fail;
 
 /// Other spellings of the sample, and changes of it that are good.

@@ -1,6 +1,5 @@
 //! What is wrong with blocks of two uses, tails, directories and the tree of entries, in changes of the sample.
-use crate::picture::Put;
-use crate::rows::{BLOCKS, Row, SAMPLE, Want, first_wrong};
+use check_rows::{BLOCKS, Put, Row, SAMPLE, Want, first_wrong};
 use image_model::Finding;
 use std::test::Fail;
 

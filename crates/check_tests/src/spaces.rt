@@ -1,6 +1,5 @@
 //! What is wrong with counts, the reserve and the log, in changes of the sample.
-use crate::picture::Put;
-use crate::rows::{BLOCKS, Row, SAMPLE, Want, first_wrong};
+use check_rows::{BLOCKS, Put, Row, SAMPLE, Want, first_wrong};
 use image_model::Finding;
 use std::test::Fail;
 

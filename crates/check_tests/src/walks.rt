@@ -1,6 +1,5 @@
 //! What is wrong with the root, and what the walk finds, in changes of the sample.
-use crate::picture::Put;
-use crate::rows::{BLOCKS, Row, SAMPLE, Want, first_wrong};
+use check_rows::{BLOCKS, Put, Row, SAMPLE, Want, first_wrong};
 use fs_check::{CheckFault, check};
 use image_model::Finding;
 use mem_disk::MemDisk;
@@ -229,10 +228,18 @@ fn has_no_root(alloc: Global, blocks: u32) -> Result<bool, Fail> {
     Ok(check(alloc, &mut disk) == Err(CheckFault::Found(Finding::NoRoot)))
 }
 
+/// The first small number of blocks where it has one.
+fn first_with_root(alloc: Global) -> Result<Option<u32>, Fail> {
+    for blocks in 0..4 {
+        if !has_no_root(alloc, blocks)? {
+            return Ok(Some(blocks));
+        }
+    }
+    Ok(None)
+}
+
 #[test]
 fn disks_of_zeros_have_no_root(rt: HostRuntime) -> Result<(), Fail> {
-    for blocks in 0..4 {
-        assert!(rt; has_no_root(rt.alloc(), blocks)?, "of {blocks} blocks");
-    }
+    assert_eq!(rt; first_with_root(rt.alloc())?, None);
     Ok(())
 }

@@ -7,13 +7,13 @@ use Rattle.image_model.specs.Plan.{taken_in}
 use Rattle.image_model.specs.Standing.{as_block}
 use Rattle.image_states.proofs.SeenPlaces.{reads_block}
 use Rattle.image_model.proofs.PointLaws.{point_stands}
-use Rattle.point_model.specs.Laws.{PlannedHasPoint, PlannedStands}
+use Rattle.point_model.specs.Laws.{PlannedHasPoint, PlannedIsSeen, PlannedStands}
 use Rattle.point_model.proofs.Counted.{counts_new}
 use Rattle.point_model.proofs.FilePlaces.{places_new, files_new}
 use Rattle.point_model.proofs.DirectoriesStand.{directories_stand}
 use Rattle.point_model.proofs.KeptPages.{old_pages}
-use Rattle.point_model.proofs.Nodes.{tails_new, directories_new, holds_new}
-use Rattle.point_model.proofs.Spelled.{no_faults, leads}
+use Rattle.point_model.proofs.Nodes.{tails_new, directories_new, holds_new, slots_new}
+use Rattle.point_model.proofs.Spelled.{inodes_new, no_faults, leads}
 use Rattle.volume_model.specs.Machine.{stored, block_at}
 use Rattle.volume_model.specs.Places.{Spot, spot_cmp}
 use Rattle.volume_model.specs.Point.{placed_after, fresh_in}
@@ -54,3 +54,10 @@ has_point r old new o m report may plan =
 
 pub planned_stands : PlannedStands
 planned_stands r old new o m report may plan = point_stands old new (stored m) _ may.stands (has_point r old new o m report may plan)
+
+pub planned_is_seen : PlannedIsSeen
+planned_is_seen r old new o m report may plan =
+    let bytes : (spot : Spot) (block : ℕ) → find spot_cmp spot m.stored_places ≡ Some block → as_block (blocks_in old block) ≡ block_at m.stored_tree spot =
+    λ spot block found. sym (reads_block old (stored m) may.stands spot block found) in
+    let pages = old_pages r old new o m report may plan (directories_stand old may.stands.sound) in
+    record { inodes = inodes_new r old new o m report may plan; slots = slots_new r old new o m report may plan bytes pages }

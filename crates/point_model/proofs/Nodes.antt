@@ -1,9 +1,10 @@
 -- The nodes that are seen in an image in which a point is planned.
-use Rattle.std.proofs.Common.{◌≡◌, ℕ, zero, suc, ◌<◌, Bool, true, false, cond, List, [], ◌∷◌, ◌++◌, map, length, Some, refl, sym, ap, subst, ◌∙◌, arith, slice_index_or}
+use Rattle.std.proofs.Common.{◌≡◌, ℕ, zero, suc, ◌<◌, Bool, true, false, cond, List, [], ◌∷◌, ◌++◌, map, length, take, Some, refl, sym, ap, subst, ◌∙◌, arith, slice_index_or}
 use Rattle.std.specs.Prelude.{◌==◌, ◌||◌, nat_eq, option_map, Contains, count_by}
 use Rattle.std.specs.List.{flat_map}
 use Rattle.std.proofs.lemmas.Bool.{eqb-true}
 use Rattle.std.proofs.lemmas.Bool.Decides.{nat_tests}
+use Rattle.std.proofs.lemmas.List.{take-append-le, take_all}
 use Rattle.vol_numbers.specs.declared.block.Block.{Block}
 use Rattle.root_switch.specs.Current.{root_of_image}
 use Rattle.block_format.specs.declared.inode.Inode.{Inode}
@@ -23,7 +24,7 @@ use Rattle.image_model.specs.Slots.{inode_of, slots_of}
 use Rattle.image_model.specs.Standing.{as_block, DirectoryStands}
 use Rattle.image_model.specs.Stands.{node_of}
 use Rattle.image_model.specs.Walk.{is_used, nodes_at}
-use Rattle.image_model.proofs.DirectoryLaws.{directory_is_seen}
+use Rattle.image_model.proofs.DirectoryLaws.{directory_is_seen, slots_are}
 use Rattle.image_model.proofs.FileLaws.{file_is_seen}
 use Rattle.image_model.proofs.Kept.{bytes_same}
 use Rattle.image_model.proofs.Naming.{no_pieces}
@@ -33,7 +34,7 @@ use Rattle.node_table.specs.Held.{info, info_of, slots_of as slots_held}
 use Rattle.node_table.specs.declared.held.HeldNode.TheVariants as held
 use Rattle.node_table.specs.declared.held.NodeInfo.TheVariants as infos
 use Rattle.place_words.specs.Different.{is_among, Distinct}
-use Rattle.point_model.specs.Holding.{inode_before, inode_now, node_now, as_node, slots_now, kind_of}
+use Rattle.point_model.specs.Holding.{inode_before, inode_now, node_now, as_node, slots_now, kind_of, width_in}
 use Rattle.point_model.specs.Laws.{MayTake, IsPlannedFor}
 use Rattle.point_model.specs.NodePlan.{block_of_place, PagesArePlanned, is_kept_page}
 use Rattle.point_model.specs.PointPlan.{ContentIsPlanned, told}
@@ -201,6 +202,14 @@ module _ (r : Rules) (old new : List Block) (o : Overlay) (m : Machine) (report 
 
   pub tails_new : (node : ℕ × Inode) → Contains (seen new).nodes node → has_tail (seen new) node ≡ false
   tails_new node there = tail_of node.0 node.1 (sym (seen_is node.0) ∙ listed new node there)
+
+  -- the slots that are seen, up to the width, are those of now
+  pub slots_new : (n width height ptr : ℕ) → plan.inode n ≡ Directory width height ptr → take width (slots_of (seen new) n) ≡ slots_now old o n
+  slots_new n width height ptr is =
+      let stood = directory_stands n width height ptr is in
+      let long : length (slots_now old o n) ≡ width = ap width_in (sym stood.is ∙ is) in
+      ap (take width) (slots_are new n (slots_now old o n) stood.height stood.ptr none (seen_is n ∙ stood.is) stood.stands)
+      ∙ take-append-le width (slots_now old o n) _ (omega (arith, long)) ∙ take_all width (slots_now old o n) (omega (arith, long))
 
   directory_seen : (n : ℕ) → (stood : Stood n)
       → (is_bad_directory (seen new) (n, Directory (length (slots_now old o n)) stood.height stood.ptr) ≡ false) × ((name : List ℕ) → number_in (slots_of (seen new) n) name ≡ number_in (slots_now old o n) name)

@@ -1,16 +1,19 @@
 -- Laws of planned points.
-use Rattle.std.specs.Prelude.{◌≡◌, ◌<◌, ◌+◌, ◌*◌, ℕ, false, List, get_or, length, Some}
+use Rattle.std.specs.Prelude.{◌≡◌, ◌<◌, ◌+◌, ◌*◌, ℕ, false, List, get_or, length, take, Some}
 use Rattle.std.specs.FinMap.{find}
 use Rattle.vol_numbers.specs.Layout.{count_blocks}
 use Rattle.vol_numbers.specs.declared.block.Block.{Block}
+use Rattle.block_format.specs.declared.inode.Inode.{Inode}
+use Rattle.block_format.specs.declared.inode.Inode.TheVariants.{Directory}
 use Rattle.block_tree.specs.Tree.{blocks_in}
 use Rattle.dirty_store.specs.Overlay.{Overlay}
 use Rattle.image_model.specs.Plan.{inode_pointers}
 use Rattle.image_model.specs.Point.{HasPoint}
 use Rattle.image_model.specs.Seen.{seen}
+use Rattle.image_model.specs.Slots.{slots_of as slots_seen}
 use Rattle.image_model.specs.Stands.{Stands, layout_in}
 use Rattle.place_words.specs.Different.{span, times, total}
-use Rattle.point_model.specs.Holding.{HoldsMachine, inode_before}
+use Rattle.point_model.specs.Holding.{HoldsMachine, inode_before, slots_now}
 use Rattle.point_model.specs.NodePlan.{node_pointers}
 use Rattle.point_model.specs.OldPages.{DirectoriesStand}
 use Rattle.point_model.specs.PointPlan.{PointIsPlanned}
@@ -60,3 +63,12 @@ PagesAreSpelled = (image : List Block) (s : Stored) → Stands image s → Direc
 abbrev pub CountsArePointers : Type 0
 CountsArePointers = (image : List Block) (s : Stored) → Stands image s → (b : ℕ) → b < 1024 * count_blocks (layout_in image)
     → get_or (seen image).kept b 0 ≡ times b (inode_pointers image) + total (λ n. times b (node_pointers image (inode_before image n))) (span 0 65536)
+
+-- The inodes that are seen of the new image are those that are planned, and each directory has the slots that it has now.
+pub record IsSeenAsPlanned (old new : List Block) (o : Overlay) (inode : ℕ → Inode) : Type 0 where
+  pub inodes : (n : ℕ) → inode_before new n ≡ inode n
+  pub slots : (n width height ptr : ℕ) → inode n ≡ Directory width height ptr → take width (slots_seen (seen new) n) ≡ slots_now old o n
+
+-- So it is of an image in which a point is planned.
+abbrev pub PlannedIsSeen : Type 0
+PlannedIsSeen = (r : Rules) (old new : List Block) (o : Overlay) (m : Machine) (report : Report) → MayTake r old o m report → (plan : IsPlannedFor r old new o m report) → IsSeenAsPlanned old new o plan.inode

@@ -1,6 +1,6 @@
 //! Laws of planned points.
 ghost use Rattle.point_model.specs.FreshPoint.{FreshPointIsPlanned};
-ghost use Rattle.point_model.specs.Laws.{BlocksHoldBytes, CountsArePointers, PagesAreSpelled, PlannedHasPoint, PlannedStands};
+ghost use Rattle.point_model.specs.Laws.{BlocksHoldBytes, CountsArePointers, PagesAreSpelled, PlannedHasPoint, PlannedIsSeen, PlannedStands};
 ghost use Rattle.point_model.specs.NodeChanges.{BuiltIsOfChange, CleanNodesAre};
 ghost use Rattle.point_model.specs.RootPlan.{SwitchedRootIsPlanned};
 ghost use Rattle.point_model.specs.Staging.{AtRest, StagingHolds, TableHoldsTree};
@@ -8,6 +8,11 @@ ghost use Rattle.point_model.specs.Staging.{AtRest, StagingHolds, TableHoldsTree
 /// An image in which a point is planned has all that a point owes.
 pub fn planned_has_point()
     ensures { PlannedHasPoint }
+{}
+
+/// In an image in which a point is planned, the inodes that are planned are seen, and directories have the slots of now.
+pub fn planned_is_seen()
+    ensures { PlannedIsSeen }
 {}
 
 /// An image in which a point is planned stands for the state after the point.

@@ -28,4 +28,6 @@ pub mod NumberPlanned
 pub mod NodesPlanned
 pub mod NodesLoop
 pub mod RestedLaws
+pub mod PlacedLaws
 pub mod ShortLaws
+pub mod PlacedShort

@@ -1,18 +1,18 @@
 -- Numbers that are planned one after the other.
-use Rattle.std.proofs.Common.{◌≡◌, ◌≤◌, ◌<◌, ℕ, zero, suc, ◌+◌, Bool, true, false, List, [], ◌∷◌, ◌++◌, length, map, take, drop, drop-cons, get_or, refl, sym, ap, subst, ◌∙◌, arith, append_assoc, length-append, length-drop, inl, inr}
-use Rattle.std.specs.Prelude.{◌||◌, ◌⊎◌, nat_eq, All, IsTrue, Result, Ok, Err, IsErrAnd, IsErrOf, OnErr, slice_index, slice_index_or}
+use Rattle.std.proofs.Common.{◌≡◌, ◌≤◌, ◌<◌, ℕ, zero, suc, ◌+◌, Bool, true, false, List, [], ◌∷◌, ◌++◌, length, take, drop, drop-cons, get_or, refl, sym, ap, subst, ◌∙◌, arith, append_assoc, length-append}
+use Rattle.std.specs.Prelude.{◌||◌, nat_eq, All, IsTrue, Result, Ok, Err, IsErrAnd, IsErrOf, OnErr}
 use Rattle.std.specs.List.{AllZip, flat_map}
 use Rattle.std.proofs.lemmas.Bool.Decides.{nat_tests}
 use Rattle.std.proofs.lemmas.List.{append-nil, take_more, take_all, map-append}
 use Rattle.std.proofs.lemmas.List.Concat.{flat_map-append, flat_map-cons}
-use Rattle.std.proofs.lemmas.List.Elements.{All-nil, All-cons, All-head, All-tail, All-push, All-drop, All-weaker}
+use Rattle.std.proofs.lemmas.List.Elements.{All-nil, All-cons, All-head, All-tail, All-push}
 use Rattle.vol_numbers.specs.Geometry.{layout_of}
 use Rattle.vol_numbers.specs.Layout.{Layout}
 use Rattle.vol_numbers.specs.declared.block.Block.{Block}
 use Rattle.vol_numbers.specs.declared.runs.Change.{Change}
 use Rattle.disk_model.specs.Disk.{Given, State}
 use Rattle.block_format.specs.Index.{IsPointer}
-use Rattle.block_tree.specs.Notes.{Stand, page_blocks, change_blocks}
+use Rattle.block_tree.specs.Notes.{page_blocks, change_blocks}
 use Rattle.block_tree.specs.Pages.{LeadInto}
 use Rattle.block_tree.specs.Tree.{Blocks}
 use Rattle.dirty_store.specs.Numbers.{AreOnce, staged_numbers}

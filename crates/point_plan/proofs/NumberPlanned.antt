@@ -1,31 +1,24 @@
 -- What is planned of one number, by what memory has of it.
-use Rattle.std.proofs.Common.{◌≡◌, ◌≤◌, ◌<◌, ℕ, ◌+◌, Bool, true, false, cond, List, [], ◌∷◌, length, take, Option, Some, None, refl, sym, ap, subst, ◌∙◌, arith}
+use Rattle.std.proofs.Common.{◌≡◌, ◌<◌, ℕ, cond, List, [], take, Option, Some, None, refl, sym, ap, subst, ◌∙◌}
 use Rattle.std.specs.Prelude.{◌==◌, All, MatchOption}
 use Rattle.std.proofs.Common.{Bor}
 use Rattle.std.specs.Option.{option_copied}
-use Rattle.std.proofs.lemmas.Bool.Decides.{nat_tests}
 use Rattle.std.proofs.lemmas.List.Elements.{All-weaker}
-use Rattle.vol_numbers.specs.Layout.{Layout}
 use Rattle.vol_numbers.specs.declared.block.Block.{Block}
 use Rattle.vol_numbers.specs.declared.runs.Change.{Change}
-use Rattle.block_format.specs.Inode.{blocks_of, height_of, node_fits, inode_shape, pointer_of}
+use Rattle.block_format.specs.Inode.{blocks_of}
 use Rattle.block_format.specs.declared.inode.Inode.{Inode}
 use Rattle.block_format.specs.declared.inode.Inode.TheVariants.{Unused, File, Directory}
 use Rattle.block_format.specs.declared.slot.Slot.{Slot}
-use Rattle.block_tree.specs.Root.{IsRoot}
 use Rattle.dirty_store.specs.Laws.{dirty_spots}
-use Rattle.dirty_store.specs.Overlay.{Overlay, node_of, least_cut}
+use Rattle.dirty_store.specs.Overlay.{node_of, least_cut}
 use Rattle.held_list.specs.Held.{slots_at}
-use Rattle.image_model.specs.Planned.{height_in}
 use Rattle.image_model.specs.Seen.{seen}
 use Rattle.image_model.specs.Slots.{slots_of as slots_seen}
 use Rattle.inode_file.specs.Inodes.{inode_of}
-use Rattle.inode_file.specs.Loading.{IsWhole}
 use Rattle.node_plan.specs.Nodes.{IsAtPoint, node_over, slots_over}
 use Rattle.node_plan.specs.Pages.{slots_or_none, slot_with, width_with}
-use Rattle.node_plan.specs.Trees.{root_of}
-use Rattle.node_table.specs.declared.held.HeldNode.{HeldNode}
-use Rattle.point_model.specs.Holding.{inode_before, staged_or, slots_from, slots_left, slots_now, as_node, node_now, width_in}
+use Rattle.point_model.specs.Holding.{inode_before, staged_or, slots_from, slots_left, as_node, node_now, width_in}
 use Rattle.point_plan.specs.PlanNodes.{AreAtDirty}
 use Rattle.point_plan.specs.State.{HoldsPoint, IsStagedWithin, inode_in, left_in, slots_in, node_in, slots_before, size_in}
 use Rattle.point_plan.specs.declared.state.PointState.{PointState}

@@ -1,5 +1,5 @@
 -- New directories that are in the list or among the fresh ones.
-use Rattle.std.proofs.Common.{◌≡◌, ℕ, Bool, true, false, cond, List, Option, Some, None, refl, sym, ap, ◌∙◌}
+use Rattle.std.proofs.Common.{◌≡◌, ℕ, Bool, true, false, cond, List, Option, Some, None, refl}
 use Rattle.std.specs.Prelude.{if◌then◌else◌, is_some}
 use Rattle.block_format.specs.declared.slot.Slot.{Slot}
 use Rattle.image_model.specs.Walk.{is_directory}

@@ -1,7 +1,6 @@
 -- The metadata after a point, counted node by node.
-use Rattle.std.proofs.Common.{◌≡◌, ℕ, zero, suc, ◌+◌, ◌-◌, ◌<◌, ◌≤◌, Bool, true, false, cond, List, [], ◌∷◌, ◌++◌, length, get_or, drop, drop-cons, map, take, Option, Some, None, refl, sym, ap, subst, ◌∙◌, arith}
-use Rattle.std.specs.Prelude.{◌==◌, All, IsTrue, option_map, sum_by}
-use Rattle.std.specs.List.{flat_map}
+use Rattle.std.proofs.Common.{◌≡◌, ℕ, zero, suc, ◌+◌, ◌-◌, ◌<◌, ◌≤◌, Bool, true, false, cond, List, [], ◌∷◌, ◌++◌, length, get_or, drop, drop-cons, take, Option, Some, refl, sym, ap, subst, ◌∙◌, arith}
+use Rattle.std.specs.Prelude.{◌==◌, All, option_map, sum_by}
 use Rattle.std.proofs.lemmas.Bool.Decides.{nat_tests}
 use Rattle.std.proofs.lemmas.List.{get_or-take, length-append, length-drop, length-map, length-take}
 use Rattle.std.proofs.lemmas.List.Concat.{flat_map-cons}
@@ -9,24 +8,19 @@ use Rattle.std.proofs.lemmas.List.Sums.{sum_by-cons}
 use Rattle.vol_numbers.specs.Geometry.{layout_of}
 use Rattle.vol_numbers.specs.Layout.{Layout, area_start}
 use Rattle.vol_numbers.specs.declared.block.Block.{Block}
-use Rattle.block_format.specs.Inode.{inode_shape}
 use Rattle.block_format.specs.declared.inode.Inode.{Inode}
-use Rattle.block_tree.specs.Notes.{Stand, page_blocks}
-use Rattle.block_tree.specs.Tree.{blocks_in}
+use Rattle.block_tree.specs.Notes.{page_blocks}
 use Rattle.fresh_runs.specs.Fresh.{blocks_in as blocks_told}
-use Rattle.fresh_runs.specs.Laws.{AreFreshLines, fresh_report}
 use Rattle.fresh_runs.proofs.Parting.{parted_length}
 use Rattle.image_model.specs.Findings.{free_in, zeros_from as zeros_in}
 use Rattle.image_model.specs.Meanings.{FreeIsCounted}
-use Rattle.image_model.specs.Seen.{seen}
 use Rattle.image_model.specs.Stands.{layout_in}
 use Rattle.inode_file.specs.Counting.{used_positions}
-use Rattle.inode_file.specs.Inodes.{inode_of}
 use Rattle.node_table.specs.Held.{info}
 use Rattle.place_words.specs.Different.{total}
 use Rattle.point_model.specs.Holding.{inode_before, node_now}
 use Rattle.point_model.specs.NodePlan.{node_metas}
-use Rattle.point_model.specs.PointPlan.{LiveStays, NodeIsPlanned, told}
+use Rattle.point_model.specs.PointPlan.{NodeIsPlanned, told}
 use Rattle.point_plan.specs.Free.{free_now}
 use Rattle.point_plan.specs.Gathered.{ArePlannedOver, IsGathered, metadata_given, metadata_had, numbers_in, pages_in}
 use Rattle.point_plan.specs.Made.{taken_by}
@@ -38,7 +32,7 @@ use Rattle.point_plan.specs.declared.gathering.Gathered.{Gathered}
 use Rattle.point_plan.specs.declared.planned_node.PlannedNode.{PlannedNode}
 use Rattle.point_plan.specs.declared.state.PointState.{PointState}
 use Rattle.point_plan.proofs.FreeBlocks.{free_now_is_free}
-use Rattle.point_plan.proofs.GatheredLaws.{has_pages, lines_are, reported, told as told_blocks}
+use Rattle.point_plan.proofs.GatheredLaws.{has_pages, reported, told as told_blocks}
 use Rattle.point_plan.proofs.Steps.{here_of}
 use Rattle.point_space.specs.Laws.{DirtyGetBlocks, MetadataIsCounted, NewMetadataIs, SomeNumbers}
 use Rattle.point_space.specs.Metadata.{DirtyHaveBlocks, node_metadata}
@@ -46,7 +40,6 @@ use Rattle.point_space.specs.Needs.{InodeBlocksAre, OldInodeBlocksAre}
 use Rattle.run_allocator.specs.Runs.{zeros_from}
 use Rattle.volume_model.specs.Lines.{lines_places}
 use Rattle.volume_model.specs.Machine.{Machine, Rules, free_of, stored}
-use Rattle.volume_model.specs.Places.{Places}
 use Rattle.volume_model.specs.Point.{may_be_fresh, placed_after}
 use Rattle.volume_model.specs.Short.{kept_and_dirty}
 use Rattle.volume_model.specs.Space.{free_blocks, inode_blocks, metadata_blocks}

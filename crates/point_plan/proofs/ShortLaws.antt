@@ -1,5 +1,5 @@
 -- A point for whose nodes too few blocks are free is short.
-use Rattle.std.proofs.Common.{◌≡◌, ℕ, zero, suc, ◌+◌, ◌<◌, ◌≤◌, Bool, true, false, cond, List, [], ◌∷◌, ◌++◌, length, get_or, map, take, Option, Some, None, refl, sym, ap, subst, ◌∙◌, arith}
+use Rattle.std.proofs.Common.{◌≡◌, ℕ, zero, suc, ◌+◌, ◌<◌, ◌≤◌, Bool, true, cond, List, [], ◌∷◌, ◌++◌, length, get_or, take, refl, sym, ap, subst, ◌∙◌, arith}
 use Rattle.std.specs.Prelude.{◌==◌, All, IsTrue, option_map}
 use Rattle.std.specs.List.{AllZip}
 use Rattle.std.proofs.lemmas.List.{length-append, length-map, take_more}
@@ -14,9 +14,11 @@ use Rattle.block_format.specs.declared.inode.Inode.TheVariants.{Unused, File, Di
 use Rattle.block_format.specs.declared.slot.Slot.{Slot}
 use Rattle.block_tree.specs.Edit.{leaves_of}
 use Rattle.block_tree.specs.Notes.{page_blocks}
+use Rattle.dirty_store.specs.Numbers.{AreOnce, staged_numbers}
 use Rattle.dirty_store.specs.Overlay.{node_of, least_cut}
 use Rattle.fresh_runs.specs.Fresh.{blocks_in as blocks_told}
 use Rattle.fresh_runs.specs.Laws.{AreFreshLines}
+use Rattle.fresh_runs.specs.declared.placed.Placed.{Placed}
 use Rattle.fresh_runs.proofs.Parting.{parted_length}
 use Rattle.image_model.specs.Findings.{free_in}
 use Rattle.image_model.specs.Meanings.{FreeIsCounted}
@@ -32,6 +34,7 @@ use Rattle.point_model.specs.Holding.{inode_now, kind_of, node_now, slots_left, 
 use Rattle.point_model.specs.PointPlan.{told as told_of}
 use Rattle.point_plan.specs.Free.{free_now}
 use Rattle.point_plan.specs.Gathered.{numbers_in, pages_in}
+use Rattle.point_plan.specs.PlacedFresh.{ArePlacedFresh, ShortPoints}
 use Rattle.point_plan.specs.PlanNodes.{AreAllOfPlaces, AreAtDirty, IsPlanOf, IsPlanOver, StopsShort, need_at}
 use Rattle.point_plan.specs.Planning.{SharesNothing}
 use Rattle.point_plan.specs.State.{HoldsPoint, IsOfSize}
@@ -40,6 +43,7 @@ use Rattle.point_plan.specs.declared.state.PointState.{PointState}
 use Rattle.point_plan.proofs.FreeBlocks.{free_now_is_free}
 use Rattle.point_plan.proofs.GatheredLaws.{lines_reported, lines_told, some_pages}
 use Rattle.point_plan.proofs.NumberPlanned.{image_slots, node_held}
+use Rattle.point_plan.proofs.PlacedLaws.{changes_dirty, changes_placed}
 use Rattle.point_plan.proofs.RoomLaws.{area_counted}
 use Rattle.point_plan.proofs.Times.{times_append}
 use Rattle.point_space.specs.Laws.{DirtyGetBlocks, NewMetadataIs}
@@ -48,7 +52,7 @@ use Rattle.point_space.specs.Needs.{RoughNeeds, ShortWhere}
 use Rattle.tree_model.specs.declared.report.Line.{Line}
 use Rattle.volume_model.specs.Lines.{lines_places}
 use Rattle.volume_model.specs.Machine.{Machine, Rules, free_of, stored}
-use Rattle.volume_model.specs.Places.{Places}
+use Rattle.volume_model.specs.Places.{Places, Spot}
 use Rattle.volume_model.specs.Point.{may_be_fresh, placed_after}
 use Rattle.volume_model.specs.Short.{is_short, kept_and_dirty}
 use Rattle.volume_model.specs.Space.{free_blocks}
@@ -159,3 +163,20 @@ module _ (r : Rules) (m : Machine) (old : List Block) (blocks : ℕ) (s : PointS
         let here : need_at s numbers changes k ≤ node_metadata m.tree (kept_and_dirty m) n + 8 = need_at_most r m old s holds n (get_or changes k []) rough (zip_get (AreAtDirty m.dirty) numbers changes k dirty stops.within) in
         let more = ap (total (node_metadata m.tree (kept_and_dirty m))) (take_more numbers k 0 stops.within) ∙ total_more (node_metadata m.tree (kept_and_dirty m)) (take k numbers) n in
         short m (take (k + 1) numbers) holds.coherent.tree (rising_front 0 (k + 1) numbers rising) (omega (arith, first, here, more, stops.short, left_many, free_is r m old blocks s holds sized counted))
+
+-- ---- all of it
+
+module _ (gets : DirtyGetBlocks) (new_is : NewMetadataIs) (rough : RoughNeeds) (short : ShortWhere) (counted : FreeIsCounted) where
+  stops : (r : Rules) (m : Machine) (old : List Block) (blocks : ℕ) (s : PointState) (numbers : List ℕ) (p : Placed) (tells : Bool) → SharesNothing r → HoldsPoint r m old s → IsOfSize blocks s
+      → AreOnce (staged_numbers s.dirty.overlay) numbers → ArePlacedFresh s numbers p → StopsShort tells old s numbers p.changes.items p.left → IsTrue tells → is_short m ≡ true
+  stops r m old blocks s numbers p tells shares holds sized once placed stop told =
+      let fresh : AreFreshLines m p.lines = record { spots = placed.spots ∙ holds.staged.dirty; longest = placed.longest } in
+      nodes_are_short r m old blocks s p.lines p.left shares holds sized fresh placed.parted tells numbers p.changes.items stop told once.rises
+      (changes_placed r m old blocks s p.lines p.left shares holds sized fresh placed.parted numbers p.changes.items placed.changes) (changes_dirty m.dirty p.lines p.changes.items numbers fresh.spots placed.changes) gets new_is counted rough short
+
+  pub short_points : ShortPoints
+  short_points = record {
+    free = λ r m old blocks s holds sized. free_is r m old blocks s holds sized counted;
+    places = λ r m old blocks s holds sized few. places_are_short r m old blocks s holds sized counted short (subst (λ (spots : List Spot). length (free_now s) < length spots) holds.staged.dirty few);
+    nodes = stops;
+  }

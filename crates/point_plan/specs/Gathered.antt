@@ -1,5 +1,5 @@
 -- What is read and taken for a plan before anything in memory changes. These words are for private functions.
-use Rattle.std.specs.Prelude.{◌≡◌, ◌≤◌, ℕ, ◌+◌, Bool, IsTrue, List, ◌++◌, All, length, map, option_map, sum_by}
+use Rattle.std.specs.Prelude.{◌≡◌, ◌≤◌, ℕ, ◌+◌, IsTrue, List, ◌++◌, All, length, map, option_map, sum_by}
 use Rattle.std.specs.List.{flat_map}
 use Rattle.vol_numbers.specs.Geometry.{layout_of}
 use Rattle.vol_numbers.specs.declared.block.Block.{Block}

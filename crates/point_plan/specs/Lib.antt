@@ -5,6 +5,7 @@ pub mod Carries
 pub mod Made
 pub mod Gathered
 pub mod PlanNodes
+pub mod PlacedFresh
 pub mod Laws
 pub mod Free
 pub mod Planning

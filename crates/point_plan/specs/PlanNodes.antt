@@ -1,5 +1,5 @@
 -- What is planned of all staged numbers, one after the other. These words are for private functions.
-use Rattle.std.specs.Prelude.{◌≡◌, ◌≤◌, ◌<◌, ℕ, ◌+◌, ◌++◌, Bool, true, IsTrue, List, [], All, length, map, take, option_map, slice_index, slice_index_or}
+use Rattle.std.specs.Prelude.{◌≡◌, ◌≤◌, ◌<◌, ℕ, ◌+◌, ◌++◌, Bool, true, IsTrue, List, [], All, length, take, option_map, slice_index, slice_index_or}
 use Rattle.std.specs.List.{AllZip}
 use Rattle.vol_numbers.specs.declared.block.Block.{Block}
 use Rattle.vol_numbers.specs.declared.runs.Change.{Change}

@@ -1,4 +1,5 @@
 //! Laws of plans that are put together.
+ghost use Rattle.point_plan.specs.PlacedFresh.{ShortPoints};
 ghost use Rattle.point_plan.specs.PutTogether.{PutTogetherIsPlan};
 ghost use Rattle.point_plan.specs.Room.{GatheredIsCounted};
 
@@ -6,7 +7,7 @@ use image_model::free_is_counted;
 use point_model::planned_stands;
 use point_space::{
     dirty_get_blocks, inode_blocks_are, metadata_is_counted, new_metadata_is, old_inode_blocks_are,
-    some_numbers,
+    rough_needs, short_where, some_numbers,
 };
 
 /// What is put together is the plan of a point.
@@ -26,5 +27,16 @@ pub(crate) fn gathered_is_counted()
     inode_blocks_are();
     metadata_is_counted();
     some_numbers();
+    free_is_counted();
+}
+
+/// A point is short where its dirty places or its nodes lack blocks.
+pub(crate) fn short_points()
+    ensures { ShortPoints }
+{
+    dirty_get_blocks();
+    new_metadata_is();
+    rough_needs();
+    short_where();
     free_is_counted();
 }

@@ -1,5 +1,5 @@
-use Rattle.std.proofs.Common.{◌≡◌, ◌+◌, ◌++◌, ◌∷◌, [], ℕ, length, List, get_or, drop, sym, ap, subst, ◌∙◌, arith, refl, inl, inr, ⊎_elim, append_assoc, length-append}
-use Rattle.std.specs.Prelude.{IsErrOf, IsTrue, Err}
+use Rattle.std.proofs.Common.{◌≡◌, ◌+◌, ◌++◌, ◌∷◌, [], ℕ, length, List, get_or, sym, ap, subst, ◌∙◌, arith, refl, append_assoc, length-append}
+use Rattle.std.specs.Prelude.{IsTrue}
 use Rattle.block_format.specs.Inode.{inode_shape}
 use Rattle.block_format.specs.declared.inode.Inode.{Inode}
 use Rattle.block_tree.specs.Notes.{page_blocks}

@@ -1,11 +1,6 @@
-use Rattle.std.proofs.Common.{◌∷◌, [], ℕ, length, List}
 use Rattle.std.specs.Option.{option_copied}
-use Rattle.block_format.specs.declared.slot.Slot.{Slot}
 use Rattle.node_plan.specs.Nodes.{IsAtPoint}
 use Rattle.node_plan.specs.Pages.{slots_or_none}
-use Rattle.point_plan.specs.State.{HoldsPoint}
-use Rattle.point_plan.specs.PlanNodes.{IsPlanOver}
-use Rattle.volume_model.specs.Machine.{Machine, Rules}
 use Rattle.point_plan.proofs.NumberPlanned.{at_point, found_slots, places_below}
 use Rattle.point_plan.proofs.nodes.plan_number.Goals as goal
 

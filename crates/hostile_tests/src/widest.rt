@@ -1,9 +1,8 @@
 //! A volume of as many nodes as there are numbers, all of them in one directory.
 ghost use Rattle.std.specs.Prelude.{◌<◌};
 
-use crate::picture::{Put, draw};
-use crate::rows::{Want, answer};
 use block_format::write_count;
+use check_rows::{Put, Want, answer, draw};
 use disk_model::Disk;
 use fs_check::check;
 use image_model::Finding;

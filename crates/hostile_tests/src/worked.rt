@@ -1,6 +1,5 @@
 //! A volume of 2,048 blocks after some commands. It has two count blocks, so its log begins at block 7 and its area at 103.
-use crate::picture::Put;
-use crate::rows::{Row, Want, first_wrong};
+use check_rows::{Put, Row, Want, first_wrong};
 use image_model::Finding;
 use std::test::Fail;
 
@@ -210,6 +209,11 @@ fn fresh_volumes_are_good(rt: HostRuntime) -> Result<(), Fail> {
         first_wrong(rt.alloc(), BLOCKS, &[FRESH], FRESH_ROWS)?,
         None
     );
+    Ok(())
+}
+
+#[test]
+fn a_log_of_two_records_is_good(rt: HostRuntime) -> Result<(), Fail> {
     assert_eq!(rt;
         first_wrong(rt.alloc(), BLOCKS, &[FRESH], TWO_RECORDS)?,
         None

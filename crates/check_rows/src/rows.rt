@@ -1,5 +1,5 @@
 //! Rows: a volume, what is changed of it, and what its check answers.
-use crate::picture::{Put, draw, image};
+use crate::{Put, draw, image};
 use fs_check::{CheckFault, Summary, check};
 use image_model::Finding;
 use std::alloc::Global;
@@ -8,7 +8,7 @@ use vol_numbers::BlockNo;
 
 /// What a check answers.
 #[derive(Clone, Copy)]
-pub(crate) enum Want {
+pub enum Want {
     /// How many nodes, records and free blocks.
     Good(u32, u32, u32),
     /// What is found.
@@ -18,10 +18,10 @@ pub(crate) enum Want {
 }
 
 /// What is changed, and what is answered then.
-pub(crate) type Row = (&'static [Put], Want);
+pub type Row = (&'static [Put], Want);
 
 /// The number of blocks of the sample.
-pub(crate) const BLOCKS: u32 = 165;
+pub const BLOCKS: u32 = 165;
 
 /// A volume of the least size. Its log is in the blocks from 5 on, and its area begins at 3 + 2 + 64 + 32, which is 101.
 /// The root is in block 1, the counts are in block 3, the inode index is block 101, and the inodes of the numbers below 64 are in block 102.
@@ -37,7 +37,7 @@ pub(crate) const BLOCKS: u32 = 165;
 /// | 4 | `/d` | two slots in block 107 |
 /// | 5 | `/d/s` | a file of 5,000,000 bytes, with the top index 108, the leaf 109 and the block 110, which is place 1,100 |
 /// | 6 | `/d/e` | a file of no bytes |
-pub(crate) const SAMPLE: &[Put] = &[
+pub const SAMPLE: &[Put] = &[
     Put::Number(1, 0, 0x4445_4449),
     Put::Number(1, 1, 0x5346_5055),
     Put::Number(1, 2, 1),
@@ -86,7 +86,7 @@ pub(crate) const SAMPLE: &[Put] = &[
 ];
 
 /// What is wanted, as an answer.
-pub(crate) fn answer(want: Want) -> Result<Summary, CheckFault> {
+pub fn answer(want: Want) -> Result<Summary, CheckFault> {
     match want {
         Want::Good(nodes, records, free) => Ok(Summary {
             nodes,
@@ -103,12 +103,7 @@ pub(crate) fn answer(want: Want) -> Result<Summary, CheckFault> {
 }
 
 /// Whether the check of a disk of so many blocks answers what is wanted, where these parts are put on it, and then these changes.
-pub(crate) fn comes_out(
-    alloc: Global,
-    blocks: u32,
-    parts: &[&[Put]],
-    row: &Row,
-) -> Result<bool, Fail> {
+fn comes_out(alloc: Global, blocks: u32, parts: &[&[Put]], row: &Row) -> Result<bool, Fail> {
     let Some(mut disk) = image(alloc, blocks, parts)? else {
         return Ok(false);
     };
@@ -119,7 +114,7 @@ pub(crate) fn comes_out(
 }
 
 /// The first row that comes out otherwise, of changes of a volume of so many blocks on which these parts are put.
-pub(crate) fn first_wrong(
+pub fn first_wrong(
     alloc: Global,
     blocks: u32,
     parts: &[&[Put]],

@@ -8,7 +8,7 @@ use vol_numbers::{Block, BlockNo};
 
 /// Numbers of four bytes, little endian, that are put into a block from a position on.
 #[derive(Clone, Copy)]
-pub(crate) enum Put {
+pub enum Put {
     /// At this position of this block, this number.
     Number(BlockNo, u32, u32),
     /// So many times the same number.
@@ -29,7 +29,7 @@ impl Put {
 }
 
 /// Puts numbers into their block, and says whether that was done.
-pub(crate) fn set<D: Disk>(disk: &mut D, row: &Put) -> bool {
+pub fn set<D: Disk>(disk: &mut D, row: &Put) -> bool {
     let (block, at, many, first, step) = row.parts();
     if block >= disk.blocks() {
         return false;
@@ -51,7 +51,7 @@ pub(crate) fn set<D: Disk>(disk: &mut D, row: &Put) -> bool {
 }
 
 /// Puts all of them in order.
-pub(crate) fn draw<D: Disk>(disk: &mut D, rows: &[Put]) -> bool {
+pub fn draw<D: Disk>(disk: &mut D, rows: &[Put]) -> bool {
     for row in rows {
         if !set(disk, row) {
             return false;
@@ -61,7 +61,7 @@ pub(crate) fn draw<D: Disk>(disk: &mut D, rows: &[Put]) -> bool {
 }
 
 /// A disk of so many blocks of zeros on which these are put, in order. None where that can't be done.
-pub(crate) fn image(alloc: Global, blocks: u32, parts: &[&[Put]]) -> Result<Option<MemDisk>, Fail> {
+pub fn image(alloc: Global, blocks: u32, parts: &[&[Put]]) -> Result<Option<MemDisk>, Fail> {
     let mut disk = MemDisk::new(alloc, blocks)?;
     for part in parts {
         if !draw(&mut disk, part) {

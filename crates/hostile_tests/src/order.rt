@@ -1,6 +1,5 @@
 //! Two faults in one image of the sample: that of the earlier phase is found.
-use crate::picture::Put;
-use crate::rows::{BLOCKS, Row, SAMPLE, Want, first_wrong};
+use check_rows::{BLOCKS, Put, Row, SAMPLE, Want, first_wrong};
 use image_model::Finding;
 use std::test::Fail;
 
@@ -178,6 +177,11 @@ fn the_first_phase_tells(rt: HostRuntime) -> Result<(), Fail> {
         first_wrong(rt.alloc(), BLOCKS, &[SAMPLE], NEIGHBOURS)?,
         None
     );
+    Ok(())
+}
+
+#[test]
+fn the_walk_tells_before_all_others(rt: HostRuntime) -> Result<(), Fail> {
     assert_eq!(rt; first_wrong(rt.alloc(), BLOCKS, &[SAMPLE], ALL)?, None);
     Ok(())
 }

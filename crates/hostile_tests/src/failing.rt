@@ -1,10 +1,9 @@
 //! Disks that fail: the check says so, and changes nothing.
-use crate::picture::{Put, image};
-use crate::rows::{BLOCKS, SAMPLE, Want, answer};
+use check_rows::{BLOCKS, Put, SAMPLE, Want, answer, image};
 use disk_model::Disk;
 use fs_check::{CheckFault, check};
 use mem_disk::MemDisk;
-use std::alloc::Global;
+use std::alloc::{AllocError, Global};
 use std::test::Fail;
 use vol_numbers::{Block, BlockNo, CallList};
 
@@ -25,15 +24,26 @@ const GOOD: Want = Want::Good(6, 2, 54);
 /// the blocks of two directories, the counts, and two blocks of the log.
 const READS: u64 = 14;
 
+/// Has this call fail, and all behind it where they do.
+fn plan_fault(
+    alloc: Global,
+    disk: &mut MemDisk,
+    call: u64,
+    onwards: bool,
+) -> Result<(), AllocError> {
+    let mut calls = Vec::new(alloc);
+    calls.push(call)?;
+    let from = if onwards { Some(call) } else { None };
+    disk.plan(CallList::from_vec(calls), from, 7);
+    Ok(())
+}
+
 /// The disk, on which this call fails, and all behind it where they do.
 fn failing(alloc: Global, call: u64, onwards: bool) -> Result<Option<MemDisk>, Fail> {
     let Some(mut disk) = image(alloc, BLOCKS, &[SAMPLE, LOGGED])? else {
         return Ok(None);
     };
-    let mut calls = Vec::new(alloc);
-    calls.push(call)?;
-    let from = if onwards { Some(call) } else { None };
-    disk.plan(CallList::from_vec(calls), from, 7);
+    plan_fault(alloc, &mut disk, call, onwards)?;
     Ok(Some(disk))
 }
 
@@ -67,27 +77,57 @@ fn same_blocks(disk: &mut MemDisk, other: &mut MemDisk) -> bool {
     true
 }
 
+/// Whether the check of a disk says that it failed, and wrote nothing.
+fn fails(alloc: Global, disk: &mut MemDisk) -> bool {
+    let moments = disk.moments();
+    let told = check(alloc, disk) == Err(CheckFault::Device);
+    told && disk.moments() == moments
+}
+
+/// Whether a disk that fails no more has the image.
+fn keeps_image(alloc: Global, disk: &mut MemDisk) -> Result<bool, Fail> {
+    disk.plan(CallList::new(alloc), None, 7);
+    match image(alloc, BLOCKS, &[SAMPLE, LOGGED])? {
+        Some(mut other) => Ok(same_blocks(disk, &mut other)),
+        None => Ok(false),
+    }
+}
+
+/// Whether the check of a disk says that it failed, wrote nothing, and left the disk as it was.
+fn fails_unchanged(alloc: Global, disk: &mut MemDisk) -> Result<bool, Fail> {
+    if !fails(alloc, disk) {
+        return Ok(false);
+    }
+    keeps_image(alloc, disk)
+}
+
 /// Whether the check says that the disk failed in this call, wrote nothing, and left the disk as it was.
 fn is_told(alloc: Global, call: u64, onwards: bool) -> Result<bool, Fail> {
-    let Some(mut disk) = failing(alloc, call, onwards)? else {
-        return Ok(false);
-    };
-    let moments = disk.moments();
-    let told = check(alloc, &mut disk) == Err(CheckFault::Device);
-    let wrote = disk.moments() != moments;
-    disk.plan(CallList::new(alloc), None, 7);
-    let Some(mut other) = image(alloc, BLOCKS, &[SAMPLE, LOGGED])? else {
-        return Ok(false);
-    };
-    Ok(told && !wrote && same_blocks(&mut disk, &mut other))
+    match failing(alloc, call, onwards)? {
+        Some(mut disk) => fails_unchanged(alloc, &mut disk),
+        None => Ok(false),
+    }
+}
+
+/// The first call whose fault isn't told.
+fn first_untold(alloc: Global, onwards: bool) -> Result<Option<u64>, Fail> {
+    for call in 0..READS {
+        if !is_told(alloc, call, onwards)? {
+            return Ok(Some(call));
+        }
+    }
+    Ok(None)
 }
 
 #[test]
 fn each_failing_call_is_told(rt: HostRuntime) -> Result<(), Fail> {
-    for call in 0..READS {
-        assert!(rt; is_told(rt.alloc(), call, false)?, "call {call}");
-        assert!(rt; is_told(rt.alloc(), call, true)?, "from call {call}");
-    }
+    assert_eq!(rt; first_untold(rt.alloc(), false)?, None);
+    Ok(())
+}
+
+#[test]
+fn each_end_of_a_disk_is_told(rt: HostRuntime) -> Result<(), Fail> {
+    assert_eq!(rt; first_untold(rt.alloc(), true)?, None);
     Ok(())
 }
 

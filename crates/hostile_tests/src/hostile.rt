@@ -1,6 +1,5 @@
 //! Images that are made to cost much: their checks end.
-use crate::picture::{Put, draw, set};
-use crate::rows::{BLOCKS, Row, SAMPLE, Want, answer, first_wrong};
+use check_rows::{BLOCKS, Put, Row, SAMPLE, Want, answer, draw, first_wrong, set};
 use disk_model::Disk;
 use fs_check::check;
 use image_model::Finding;

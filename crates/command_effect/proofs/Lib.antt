@@ -1,0 +1,4 @@
+pub mod PathLaws
+pub mod BlockLaws
+pub mod NodeEffects
+pub mod FileEffects
