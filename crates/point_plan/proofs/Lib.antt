@@ -31,3 +31,4 @@ pub mod RestedLaws
 pub mod PlacedLaws
 pub mod ShortLaws
 pub mod PlacedShort
+pub mod SeenLaws

@@ -15,6 +15,7 @@ use Rattle.image_model.specs.Seen.{counts_from as counts_seen, home_in, seen}
 use Rattle.inode_file.specs.Inodes.{InodeTable, Stands as InodesStand, inode_of}
 use Rattle.image_model.specs.Stands.{layout_in}
 use Rattle.point_model.specs.Holding.{inode_before}
+use Rattle.point_model.specs.Laws.{PlannedIsSeen}
 use Rattle.held_list.specs.Held.{slots_at}
 use Rattle.held_list.specs.declared.held.Held.{Held}
 use Rattle.point_plan.specs.Carries.{Carries}
@@ -29,7 +30,9 @@ use Rattle.point_plan.specs.declared.gathering.Gathered.{Gathered}
 use Rattle.point_plan.specs.declared.planned.Plan.{Plan}
 use Rattle.point_plan.specs.declared.state.PointState.{PointState}
 use Rattle.point_plan.proofs.LongLaws.{metadata_is, room_is_long}
+use Rattle.point_plan.proofs.SeenLaws.{nodes_seen, slots_are_seen}
 use Rattle.point_plan.proofs.Stays.{table_stands}
+use Rattle.point_plan.proofs.Together.{seen_planned}
 use Rattle.root_switch.specs.Current.{root_of_image}
 use Rattle.volume_model.specs.Machine.{Machine, Rules, stored}
 use Rattle.volume_model.specs.Point.{after_point, fresh_in}
@@ -52,7 +55,7 @@ kept_counts image counts long stand = same 0 (count_blocks (root_of_image image)
 
 module _ (r : Rules) (m : Machine) (old : List Block) (blocks : ℕ) (s after : PointState) (g : Gathered) (plan : Plan) (shares : SharesNothing r) (holds : HoldsPoint r m old s) (sized : IsOfSize blocks s)
     (gathered : IsGathered s g) (over : ArePlannedOver r m old s g) (put : IsPutFrom s after g plan) (counted : GatheredIsCounted) (law : PutTogetherIsPlan) (rest : PointRests)
-    (seen_after : (new : List Block) → Carries old new s.dirty.overlay plan after.counts.counts → AreSeen new after) where
+    (seen_law : PlannedIsSeen) where
   together : IsPutTogether r m old blocks s after g put.rewritten plan.root 0
   together = record {
     shares = shares;
@@ -72,6 +75,14 @@ module _ (r : Rules) (m : Machine) (old : List Block) (blocks : ℕ) (s after : 
   so_far = subst (λ (p : Plan). IsPlanSoFar r m old s after p) (sym put.is) (law r m old blocks s after g put.rewritten plan.root 0 together long)
 
   -- ---- memory after the point
+
+  seen_after : (new : List Block) → Carries old new s.dirty.overlay plan after.counts.counts → AreSeen new after
+  seen_after new carries =
+      let seen = seen_planned r m old blocks s after g put.rewritten plan.root 0 together seen_law long new (subst (λ (p : Plan). Carries old new s.dirty.overlay p after.counts.counts) put.is carries) in
+      record {
+        nodes = nodes_seen r m old new s after g.nodes holds gathered.nodes put.inodes.inodes put.directories seen;
+        slots = slots_are_seen r m old new s after g.nodes holds gathered.nodes put.inodes.inodes put.directories seen;
+      }
 
   module _ (new : List Block) (settled : PointState) (carries : Carries old new s.dirty.overlay plan after.counts.counts) (is : IsSettled new after settled) where
     rests : RestsOver r (after_point r m (fresh_in plan.report)) new settled.dirty.overlay settled.metadata

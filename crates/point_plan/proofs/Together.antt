@@ -22,7 +22,7 @@ use Rattle.image_model.proofs.Area.{among_times}
 use Rattle.inode_file.specs.Inodes.{inode_of}
 use Rattle.place_words.specs.Different.{Distinct, is_among, span, times}
 use Rattle.place_words.proofs.Counting.{times_among}
-use Rattle.point_model.specs.Laws.{IsPlannedFor, PlannedStands}
+use Rattle.point_model.specs.Laws.{IsPlannedFor, IsSeenAsPlanned, PlannedIsSeen, PlannedStands}
 use Rattle.point_plan.specs.Carries.{Carries}
 use Rattle.point_plan.specs.Free.{IsFree, free_now}
 use Rattle.point_plan.specs.Gathered.{pages_in}
@@ -38,7 +38,7 @@ use Rattle.point_plan.proofs.CountsPlanned.{listed}
 use Rattle.point_plan.proofs.FreeBlocks.{free_now_is_free}
 use Rattle.point_plan.proofs.GatheredLaws.{layout_is as gathered_layout, lines_are as gathered_lines, reported as gathered_report, told as gathered_told}
 use Rattle.point_plan.proofs.Times.{times_append}
-use Rattle.point_plan.proofs.Whole.{made_is_planned}
+use Rattle.point_plan.proofs.Whole.{made_inode, made_is_planned}
 use Rattle.volume_model.specs.Lines.{line_blocks}
 use Rattle.volume_model.specs.Machine.{Machine, Rules, free_of, stored}
 use Rattle.volume_model.specs.Point.{after_point, fresh_in, next_point, placed_after}

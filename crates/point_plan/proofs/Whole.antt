@@ -1,21 +1,28 @@
 -- All of a plan.
-use Rattle.std.proofs.Common.{◌≡◌, ℕ, ◌*◌, false, List, length, sym, ap, ◌∙◌}
+use Rattle.std.proofs.Common.{◌≡◌, ℕ, ◌*◌, false, List, length, refl, sym, ap, ◌∙◌}
 use Rattle.vol_numbers.specs.Geometry.{layout_of}
 use Rattle.vol_numbers.specs.Layout.{Layout, count_blocks}
+use Rattle.vol_numbers.specs.declared.block.Block.{Block}
 use Rattle.block_format.specs.Root.{Root}
+use Rattle.block_tree.specs.declared.plan.Rewritten.{Rewritten}
 use Rattle.image_model.specs.Stands.{layout_in}
 use Rattle.image_model.specs.Walk.{is_used}
-use Rattle.inode_file.specs.Inodes.{inode_of}
+use Rattle.inode_file.specs.Inodes.{InodeTable, inode_of}
 use Rattle.point_model.specs.Holding.{node_now}
 use Rattle.point_model.proofs.Numbers.{unused_zero}
 use Rattle.block_tree.specs.Tree.{blocks_in}
-use Rattle.point_plan.specs.Laws.{MadeIsPlanned}
+use Rattle.point_plan.specs.Carries.{Carries}
+use Rattle.point_plan.specs.Laws.{IsMadeFor, MadeIsPlanned}
+use Rattle.point_plan.specs.State.{HoldsPoint, IsOfSize}
+use Rattle.point_plan.specs.declared.planned.Plan.{Plan}
+use Rattle.point_plan.specs.declared.state.PointState.{PointState}
 use Rattle.point_plan.proofs.Put.{point_is_planned, kinds}
 use Rattle.point_plan.proofs.Stays.{table_stands}
 use Rattle.point_plan.proofs.Written.{lines_written}
 use Rattle.root_switch.specs.Current.{root_of_image}
-use Rattle.volume_model.specs.Machine.{stored}
+use Rattle.volume_model.specs.Machine.{Machine, Rules, stored}
 use Rattle.volume_model.specs.Point.{placed_after, fresh_in}
+use Rattle.volume_model.specs.ReportLaws.{IsReport}
 
 pub made_is_planned : MadeIsPlanned
 made_is_planned r m old new blocks s t counts plan w holds size report made carries =

@@ -30,6 +30,7 @@ use crate::totals::{totals_of, wide};
 use crate::{Plan, PlanFault, PointState};
 use disk_model::Disk;
 use inode_file::InodeFile;
+use point_model::planned_is_seen;
 use std::alloc::Global;
 
 /// Plans a point. It reads and takes memory, and writes nothing.
@@ -55,6 +56,7 @@ pub fn plan<D: Disk>(alloc: Global, disk: &mut D, state: &mut PointState) -> Res
     gathered_is_counted();
     put_together_is_plan();
     point_rests();
+    planned_is_seen();
     match gather(alloc, disk, state) {
         Ok(gathered) => put_together(alloc, state, gathered),
         Err(fault) => Err(fault),

@@ -21,7 +21,7 @@ returns-in-Ok-clause-planned g c = IfOk-weaker c.put_together.result _ _
     let old : List Block = (g.D.Disk.state c.args.disk.now).contents in
     let s : PointState = c.args.state.now in
     planned r m old (g.D.Disk.fixed c.args.disk.now).size s c.put_together.new.state c.in-Ok.gathered p shares holds c.requires.size c.in-Ok.ensures.gathered (c.in-Ok.ensures.over tells r m shares holds) put
-    c.gathered_is_counted.ensures c.put_together_is_plan.ensures c.point_rests.ensures ?)
+    c.gathered_is_counted.ensures c.put_together_is_plan.ensures c.point_rests.ensures c.planned_is_seen.ensures)
     c.put_together.ensures.put
 
 pub returns-in-Ok-clause-within : goal.returns-in-Ok-clause-within
