@@ -67,7 +67,7 @@ pub fn take<D: Disk>(
     // A point is short exactly by the rule: one that is short is not written, and no other is called short.
     ensures short { (free : ℕ) → IsErrOf result (Short free) → IsTrue D.tells → (r : Rules) (m : Machine) → IsHeld r m (D.state disk.old) state.old → (is_short m ≡ true) × (free ≡ free_of m) }
     ensures long { HasWritten result → IsTrue D.tells → (r : Rules) (m : Machine) → IsHeld r m (D.state disk.old) state.old → is_short m ≡ false }
-    // A damaged block is the one that was read last, and is outside the grammar. 
+    // A damaged block is the one that was read last, and is outside the grammar.
     ensures damaged { (b : ℕ) → IsErrOf result (Damaged b) → IsDamage (layout_of state.old.geometry) D.tells (blocks_in (D.state disk.old).contents) (D.given disk.old) (D.given disk.new) b }
 
     ensures fixed { D.fixed disk.new ≡ D.fixed disk.old }
