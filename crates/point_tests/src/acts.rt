@@ -150,10 +150,7 @@ fn touched(place: Fbn, byte: u8) -> Touched
     }
 }
 
-fn slots_of(
-    alloc: Global,
-    rows: &[SlotRow],
-) -> Result<SlotChangeList, AllocError>
+fn slots_of(alloc: Global, rows: &[SlotRow]) -> Result<SlotChangeList, AllocError>
     ensures { IfOk result (λ list. All (λ c. c.slot < 65534) list) }
 {
     let mut list = Vec::new(alloc);

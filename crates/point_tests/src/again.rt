@@ -170,7 +170,13 @@ const AFTER_DIRECTORY_AGAIN: &[Put] = &[
 #[test]
 fn a_number_is_made_again(rt: HostRuntime) -> Result<(), Fail> {
     assert_eq!(rt;
-        comes_out(rt.alloc(), BLOCKS, &[FRESH], MADE_AGAIN, &[FRESH, OTHER_SLOT, TWO_BLOCKS, AFTER_MADE_AGAIN])?,
+        comes_out(
+            rt.alloc(),
+            BLOCKS,
+            &[FRESH],
+            MADE_AGAIN,
+            &[FRESH, OTHER_SLOT, TWO_BLOCKS, AFTER_MADE_AGAIN]
+        )?,
         Outcome::Good(2, 60)
     );
     Ok(())
@@ -179,7 +185,13 @@ fn a_number_is_made_again(rt: HostRuntime) -> Result<(), Fail> {
 #[test]
 fn a_file_is_cut_and_grown_again(rt: HostRuntime) -> Result<(), Fail> {
     assert_eq!(rt;
-        comes_out(rt.alloc(), BLOCKS, &[FRESH], GROWN_AGAIN, &[FRESH, OTHER_SLOT, TWO_BLOCKS, AFTER_GROWN_AGAIN])?,
+        comes_out(
+            rt.alloc(),
+            BLOCKS,
+            &[FRESH],
+            GROWN_AGAIN,
+            &[FRESH, OTHER_SLOT, TWO_BLOCKS, AFTER_GROWN_AGAIN]
+        )?,
         Outcome::Good(2, 59)
     );
     Ok(())
@@ -188,7 +200,13 @@ fn a_file_is_cut_and_grown_again(rt: HostRuntime) -> Result<(), Fail> {
 #[test]
 fn a_directory_is_emptied_and_filled_again(rt: HostRuntime) -> Result<(), Fail> {
     assert_eq!(rt;
-        comes_out(rt.alloc(), BLOCKS, &[FRESH], FILLED_AGAIN, &[FRESH, OTHER_SLOT, AFTER_FILLED_AGAIN])?,
+        comes_out(
+            rt.alloc(),
+            BLOCKS,
+            &[FRESH],
+            FILLED_AGAIN,
+            &[FRESH, OTHER_SLOT, AFTER_FILLED_AGAIN]
+        )?,
         Outcome::Good(2, 61)
     );
     Ok(())
@@ -197,7 +215,13 @@ fn a_directory_is_emptied_and_filled_again(rt: HostRuntime) -> Result<(), Fail> 
 #[test]
 fn a_directory_is_removed_and_made_again(rt: HostRuntime) -> Result<(), Fail> {
     assert_eq!(rt;
-        comes_out(rt.alloc(), BLOCKS, &[FRESH], DIRECTORY_AGAIN, &[FRESH, OTHER_SLOT, AFTER_DIRECTORY_AGAIN])?,
+        comes_out(
+            rt.alloc(),
+            BLOCKS,
+            &[FRESH],
+            DIRECTORY_AGAIN,
+            &[FRESH, OTHER_SLOT, AFTER_DIRECTORY_AGAIN]
+        )?,
         Outcome::Good(3, 60)
     );
     Ok(())

@@ -1,10 +1,13 @@
 //! Disks that fail at a call of a point and at each call behind it. Whatever a power cut leaves then, the check finds the volume of before or the one
 //! after the point.
+ghost use Rattle.point_plan.specs.State.{IsOfSize};
+
+use crate::Quiet;
 use crate::acts::{Act, Kind};
 use crate::small::{BLOCKS, FRESH};
 use crate::volume::{Volume, all_done};
 use consistency_point::take;
-use disk_model::Pick;
+use disk_model::{Disk, Pick};
 use fs_check::check;
 use mem_disk::MemDisk;
 use std::alloc::{AllocError, Global};
@@ -66,8 +69,13 @@ fn nodes_of(alloc: Global, disk: &mut MemDisk, torn: bool) -> Option<u32> {
     }
 }
 
-fn left_of(alloc: Global, volume: Volume, calls: CallList, from: u64, torn: bool) -> Left {
-    let Volume { mut disk, mut state } = volume;
+fn left_of(alloc: Global, volume: Volume, calls: CallList, from: u64, torn: bool) -> Left
+    requires { IsOfSize (⟦<Quiet as Disk>⟧.fixed volume.disk).size volume.state }
+{
+    let Volume {
+        mut disk,
+        mut state,
+    } = volume;
     disk.disk.plan(calls, Some(from), 255);
     let taken = take(alloc, &mut disk, &mut state).is_ok();
     Left {
@@ -96,34 +104,69 @@ struct Seen {
     after: bool,
 }
 
-fn seen(alloc: Global, torn: bool) -> Result<Seen, Fail> {
+fn through_all(alloc: Global, torn: bool) -> Result<Seen, Fail> {
     let mut before = false;
     let mut after = false;
     for call in 0..CALLS {
         match left_at(alloc, call, torn)? {
-            Some(Left { taken: false, nodes: Some(1) }) => before = true,
-            Some(Left { taken: false, nodes: Some(2) }) => after = true,
-            Some(Left { taken: true, nodes: Some(2) }) => {
-                return Ok(Seen { bad: None, before, after });
+            Some(
+                Left {
+                    taken: false,
+                    nodes: Some(1),
+                },
+            ) => before = true,
+            Some(
+                Left {
+                    taken: false,
+                    nodes: Some(2),
+                },
+            ) => after = true,
+            Some(
+                Left {
+                    taken: true,
+                    nodes: Some(2),
+                },
+            ) => {
+                return Ok(Seen {
+                    bad: None,
+                    before,
+                    after,
+                });
             }
-            _ => return Ok(Seen { bad: Some(call), before, after }),
+            _ => return Ok(Seen {
+                bad: Some(call),
+                before,
+                after,
+            }),
         }
     }
-    Ok(Seen { bad: Some(CALLS), before, after })
+    Ok(Seen {
+        bad: Some(CALLS),
+        before,
+        after,
+    })
 }
 
 /// Where what was written stands, the last sync fails with the new root current.
 #[test]
 fn each_failure_leaves_one_of_the_two(rt: HostRuntime) -> Result<(), Fail> {
-    let want = Seen { bad: None, before: true, after: true };
-    assert_eq!(rt; seen(rt.alloc(), false)?, want);
+    let want = Seen {
+        bad: None,
+        before: true,
+        after: true,
+    };
+    assert_eq!(rt; through_all(rt.alloc(), false)?, want);
     Ok(())
 }
 
 /// A torn selector of bytes 255 names the other slot, which was synced before.
 #[test]
 fn so_does_each_torn_write(rt: HostRuntime) -> Result<(), Fail> {
-    let want = Seen { bad: None, before: true, after: true };
-    assert_eq!(rt; seen(rt.alloc(), true)?, want);
+    let want = Seen {
+        bad: None,
+        before: true,
+        after: true,
+    };
+    assert_eq!(rt; through_all(rt.alloc(), true)?, want);
     Ok(())
 }

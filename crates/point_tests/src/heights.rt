@@ -93,7 +93,13 @@ const TO_ONE: &[Put] = &[
 #[test]
 fn a_file_grows_to_height_two(rt: HostRuntime) -> Result<(), Fail> {
     assert_eq!(rt;
-        comes_out(rt.alloc(), BLOCKS, &[FRESH], GROWN, &[FRESH, OTHER_SLOT, TO_TWO, TO_MANY])?,
+        comes_out(
+            rt.alloc(),
+            BLOCKS,
+            &[FRESH],
+            GROWN,
+            &[FRESH, OTHER_SLOT, TO_TWO, TO_MANY]
+        )?,
         Outcome::Good(2, 55)
     );
     Ok(())
@@ -102,7 +108,13 @@ fn a_file_grows_to_height_two(rt: HostRuntime) -> Result<(), Fail> {
 #[test]
 fn and_is_cut_to_height_nought(rt: HostRuntime) -> Result<(), Fail> {
     assert_eq!(rt;
-        comes_out(rt.alloc(), BLOCKS, &[FRESH], CUT, &[FRESH, OTHER_SLOT, TO_TWO, TO_MANY, TO_ONE])?,
+        comes_out(
+            rt.alloc(),
+            BLOCKS,
+            &[FRESH],
+            CUT,
+            &[FRESH, OTHER_SLOT, TO_TWO, TO_MANY, TO_ONE]
+        )?,
         Outcome::Good(2, 60)
     );
     Ok(())

@@ -1,10 +1,15 @@
 //! A point that is short. A file of 43 blocks with its leaf, the directory's block, the inodes and the inode index takes 47 of the 62 free blocks, and a
 //! point has to leave 16. A file of 42 blocks takes 46.
+ghost use Rattle.std.specs.Prelude.{IfOk, IfSome};
+ghost use Rattle.point_plan.specs.State.{IsOfSize};
+
+use crate::Quiet;
 use crate::acts::{Act, Kind};
-use crate::small::{BLOCKS, FRESH};
 use crate::picture::image;
+use crate::small::{BLOCKS, FRESH};
 use crate::volume::{Outcome, Volume, all_done, checked, done, first_other};
 use consistency_point::{PointFault, take};
+use disk_model::Disk;
 use std::alloc::Global;
 use std::test::Fail;
 
@@ -18,8 +23,14 @@ const CUT: Act = Act::Resized(2, 172_032, 42);
 const FITS: Act = Act::Point((1, 42, 18, &[(2, 0, 42, 103)]));
 
 /// The volume as it was, where the point is short and tells so many free blocks.
-fn short(alloc: Global, volume: Volume, free: u32) -> Option<Volume> {
-    let Volume { mut disk, mut state } = volume;
+fn short(alloc: Global, volume: Volume, free: u32) -> Option<Volume>
+    requires { IsOfSize (⟦<Quiet as Disk>⟧.fixed volume.disk).size volume.state }
+    ensures { IfSome result (λ v. IsOfSize (⟦<Quiet as Disk>⟧.fixed v.disk).size v.state) }
+{
+    let Volume {
+        mut disk,
+        mut state,
+    } = volume;
     match take(alloc, &mut disk, &mut state) {
         Err(PointFault::Short { free: told }) if told == free => Some(Volume { disk, state }),
         _ => None,
@@ -27,7 +38,9 @@ fn short(alloc: Global, volume: Volume, free: u32) -> Option<Volume> {
 }
 
 /// The volume after the short point.
-fn after_short(alloc: Global) -> Result<Option<Volume>, Fail> {
+fn after_short(alloc: Global) -> Result<Option<Volume>, Fail>
+    ensures { IfOk result (λ o. IfSome o (λ v. IsOfSize (⟦<Quiet as Disk>⟧.fixed v.disk).size v.state)) }
+{
     match all_done(alloc, BLOCKS, &[FRESH], TOO_MANY)? {
         Some(volume) => Ok(short(alloc, volume, 62)),
         None => Ok(None),
@@ -51,7 +64,9 @@ fn is_fresh(alloc: Global, volume: Volume) -> Result<bool, Fail> {
 }
 
 /// The volume where the file is cut by a block after the short point, and a point is taken.
-fn after_cut(alloc: Global, volume: Volume) -> Option<Volume> {
+fn after_cut(alloc: Global, volume: Volume) -> Option<Volume>
+    requires { IsOfSize (⟦<Quiet as Disk>⟧.fixed volume.disk).size volume.state }
+{
     let cut = done(alloc, volume, &CUT)?;
     done(alloc, cut, &FITS)
 }

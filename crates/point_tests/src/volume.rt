@@ -1,5 +1,5 @@
 //! A volume on a disk in memory, and what memory has of it.
-ghost use Rattle.std.specs.Prelude.{◌≡◌};
+ghost use Rattle.std.specs.Prelude.{IfOk, IfSome};
 ghost use Rattle.point_plan.specs.State.{IsOfSize};
 
 use crate::acts::{Act, Fresh, Told, effect_of, row_of};
@@ -14,22 +14,26 @@ use std::test::Fail;
 use tree_model::{Line, LineKind, Report};
 use vol_numbers::{Block, BlockNo};
 
-/// Disk and memory are of one size.
+/// Where acts are done to it, disk and memory are of one size.
+#[derive(Drop)]
 pub(crate) struct Volume {
     pub disk: Quiet,
     pub state: PointState,
-    ghost sized: { IsOfSize (⟦<Quiet as Disk>⟧.fixed disk).size state },
 }
 
 /// The volume with nothing but its root directory that these parts draw.
-pub(crate) fn opened(alloc: Global, blocks: u32, parts: &[&[Put]]) -> Result<Option<Volume>, Fail> {
+pub(crate) fn opened(alloc: Global, blocks: u32, parts: &[&[Put]]) -> Result<Option<Volume>, Fail>
+    ensures { IfOk result (λ o. IfSome o (λ v. IsOfSize (⟦<Quiet as Disk>⟧.fixed v.disk).size v.state)) }
+{
     match image(alloc, blocks, parts)? {
         Some(disk) => Ok(volume_on(alloc, disk)),
         None => Ok(None),
     }
 }
 
-fn volume_on(alloc: Global, disk: MemDisk) -> Option<Volume> {
+fn volume_on(alloc: Global, disk: MemDisk) -> Option<Volume>
+    ensures { IfSome result (λ v. IsOfSize (⟦<Quiet as Disk>⟧.fixed v.disk).size v.state) }
+{
     let mut disk = Quiet { disk };
     match fresh_state(alloc, &mut disk) {
         Some(state) => Some(Volume { disk, state }),
@@ -38,14 +42,20 @@ fn volume_on(alloc: Global, disk: MemDisk) -> Option<Volume> {
 }
 
 /// The volume after an act. None where a point reports something else, or where the act can't be done.
-pub(crate) fn done(alloc: Global, volume: Volume, act: &Act) -> Option<Volume> {
+pub(crate) fn done(alloc: Global, volume: Volume, act: &Act) -> Option<Volume>
+    requires { IsOfSize (⟦<Quiet as Disk>⟧.fixed volume.disk).size volume.state }
+    ensures { IfSome result (λ v. IsOfSize (⟦<Quiet as Disk>⟧.fixed v.disk).size v.state) }
+{
     match *act {
         Act::Point(told) => pointed(alloc, volume, &told),
         _ => with_staged(alloc, volume, act),
     }
 }
 
-fn with_staged(alloc: Global, volume: Volume, act: &Act) -> Option<Volume> {
+fn with_staged(alloc: Global, volume: Volume, act: &Act) -> Option<Volume>
+    requires { IsOfSize (⟦<Quiet as Disk>⟧.fixed volume.disk).size volume.state }
+    ensures { IfSome result (λ v. IsOfSize (⟦<Quiet as Disk>⟧.fixed v.disk).size v.state) }
+{
     let row = row_of(act)?;
     let Ok(effect) = effect_of(alloc, &row) else {
         return None;
@@ -57,8 +67,14 @@ fn with_staged(alloc: Global, volume: Volume, act: &Act) -> Option<Volume> {
     }
 }
 
-fn pointed(alloc: Global, volume: Volume, told: &Told) -> Option<Volume> {
-    let Volume { mut disk, mut state } = volume;
+fn pointed(alloc: Global, volume: Volume, told: &Told) -> Option<Volume>
+    requires { IsOfSize (⟦<Quiet as Disk>⟧.fixed volume.disk).size volume.state }
+    ensures { IfSome result (λ v. IsOfSize (⟦<Quiet as Disk>⟧.fixed v.disk).size v.state) }
+{
+    let Volume {
+        mut disk,
+        mut state,
+    } = volume;
     match take(alloc, &mut disk, &mut state) {
         Ok(report) if is_told(&report, told) => Some(Volume { disk, state }),
         _ => None,
@@ -71,7 +87,9 @@ pub(crate) fn all_done(
     blocks: u32,
     parts: &[&[Put]],
     acts: &[Act],
-) -> Result<Option<Volume>, Fail> {
+) -> Result<Option<Volume>, Fail>
+    ensures { IfOk result (λ o. IfSome o (λ v. IsOfSize (⟦<Quiet as Disk>⟧.fixed v.disk).size v.state)) }
+{
     let mut volume = match opened(alloc, blocks, parts)? {
         Some(volume) => volume,
         None => return Ok(None),
@@ -156,7 +174,7 @@ pub(crate) enum Outcome {
     NotDone,
 }
 
-fn outcome(alloc: Global, disk: &mut MemDisk, drawn: &mut MemDisk, blocks: u32) -> Outcome {
+fn compared_with(alloc: Global, disk: &mut MemDisk, drawn: &mut MemDisk, blocks: u32) -> Outcome {
     match first_other(disk, drawn, blocks) {
         Some(at) => Outcome::Other(at),
         None => found(alloc, disk),
@@ -176,15 +194,10 @@ pub(crate) fn checked(alloc: Global, volume: Volume) -> Outcome {
     found(alloc, &mut disk.disk)
 }
 
-fn compared(
-    alloc: Global,
-    volume: Volume,
-    blocks: u32,
-    parts: &[&[Put]],
-) -> Result<Outcome, Fail> {
+fn compared(alloc: Global, volume: Volume, blocks: u32, parts: &[&[Put]]) -> Result<Outcome, Fail> {
     let Volume { mut disk, .. } = volume;
     match image(alloc, blocks, parts)? {
-        Some(mut drawn) => Ok(outcome(alloc, &mut disk.disk, &mut drawn, blocks)),
+        Some(mut drawn) => Ok(compared_with(alloc, &mut disk.disk, &mut drawn, blocks)),
         None => Ok(Outcome::NotDone),
     }
 }

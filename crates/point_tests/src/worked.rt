@@ -142,7 +142,13 @@ fn a_point_with_nothing_pending_writes_the_root_alone(rt: HostRuntime) -> Result
 #[test]
 fn two_points_use_the_slots_in_turn(rt: HostRuntime) -> Result<(), Fail> {
     assert_eq!(rt;
-        comes_out(rt.alloc(), BLOCKS, &[FRESH], NOTHING_TWICE, &[FRESH, NEXT_ROOT, ROOT_AFTER])?,
+        comes_out(
+            rt.alloc(),
+            BLOCKS,
+            &[FRESH],
+            NOTHING_TWICE,
+            &[FRESH, NEXT_ROOT, ROOT_AFTER]
+        )?,
         Outcome::Good(1, 1_943)
     );
     Ok(())
@@ -160,7 +166,13 @@ fn a_file_of_eight_blocks_is_written(rt: HostRuntime) -> Result<(), Fail> {
 #[test]
 fn a_second_file_is_written_beside_it(rt: HostRuntime) -> Result<(), Fail> {
     assert_eq!(rt;
-        comes_out(rt.alloc(), BLOCKS, &[FRESH], SECOND_ACTS, &[FRESH, FIRST, SECOND])?,
+        comes_out(
+            rt.alloc(),
+            BLOCKS,
+            &[FRESH],
+            SECOND_ACTS,
+            &[FRESH, FIRST, SECOND]
+        )?,
         Outcome::Good(3, 1_924)
     );
     Ok(())
