@@ -1,11 +1,13 @@
 //! A volume on a disk in memory, and what memory has of it.
 ghost use Rattle.std.specs.Prelude.{IfOk, IfSome};
+ghost use Rattle.dirty_store.specs.Overlay.{IsEffect};
 ghost use Rattle.point_plan.specs.State.{IsOfSize};
 
 use crate::acts::{Act, Fresh, Told, effect_of, row_of};
 use crate::picture::{Put, image};
 use crate::{Quiet, fresh_state, staged};
 use consistency_point::{PointState, take};
+use dirty_store::Effect;
 use disk_model::Disk;
 use fs_check::check;
 use mem_disk::MemDisk;
@@ -52,17 +54,35 @@ pub(crate) fn done(alloc: Global, volume: Volume, act: &Act) -> Option<Volume>
     }
 }
 
+/// The effect of an act that is no point.
+fn effect_for(alloc: Global, act: &Act) -> Option<Effect>
+    ensures { IfSome result IsEffect }
+{
+    let row = row_of(act)?;
+    match effect_of(alloc, &row) {
+        Ok(effect) => Some(effect),
+        Err(_) => None,
+    }
+}
+
+fn with_effect(alloc: Global, volume: Volume, effect: Effect) -> Option<Volume>
+    requires size { IsOfSize (⟦<Quiet as Disk>⟧.fixed volume.disk).size volume.state }
+    requires effect { IsEffect effect }
+    ensures { IfSome result (λ v. IsOfSize (⟦<Quiet as Disk>⟧.fixed v.disk).size v.state) }
+{
+    let Volume { disk, state } = volume;
+    match staged(alloc, state, effect) {
+        Some(state) => Some(Volume { disk, state }),
+        None => None,
+    }
+}
+
 fn with_staged(alloc: Global, volume: Volume, act: &Act) -> Option<Volume>
     requires { IsOfSize (⟦<Quiet as Disk>⟧.fixed volume.disk).size volume.state }
     ensures { IfSome result (λ v. IsOfSize (⟦<Quiet as Disk>⟧.fixed v.disk).size v.state) }
 {
-    let row = row_of(act)?;
-    let Ok(effect) = effect_of(alloc, &row) else {
-        return None;
-    };
-    let Volume { disk, state } = volume;
-    match staged(alloc, state, effect) {
-        Some(state) => Some(Volume { disk, state }),
+    match effect_for(alloc, act) {
+        Some(effect) => with_effect(alloc, volume, effect),
         None => None,
     }
 }
