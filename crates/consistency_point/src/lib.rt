@@ -9,4 +9,4 @@ mod writing;
 
 pub use fault::PointFault;
 pub use point_plan::PointState;
-pub use taking::carry_out;
+pub use taking::{carry_out, take};
