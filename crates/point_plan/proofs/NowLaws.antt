@@ -91,7 +91,7 @@ module _ (s : PointState) (n : ℕ) (out : is_among (staged_numbers s.dirty.over
   unstaged_left : left_in s n ≡ slots_or_none (slots_at s.directories n)
   unstaged_left = ap (λ (t : Option NodeChange). cond (least_cut t == 0) [] (slots_or_none (slots_at s.directories n))) node
 
-  unstaged_slots : slots_in s n ≡ slots_or_none (slots_at s.directories n)
+  pub unstaged_slots : slots_in s n ≡ slots_or_none (slots_at s.directories n)
   unstaged_slots = slots_unstaged (left_in s n) o n (no_width o.slots n slots_out) (λ k. no_slot o.slots n k slots_out) ∙ unstaged_left
 
 -- ---- an inode that tells what a number is

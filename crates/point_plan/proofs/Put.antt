@@ -132,7 +132,7 @@ module _ (old new : List Block) (o : Overlay) (m : Machine) (placed : Places) (f
       }
 
       -- All of it, where each fresh block holds what is staged.
-      pub point_is_planned : ((spot : Spot) (block : ℕ) (staged : Block) → find spot_cmp spot placed ≡ Some block → is_among fresh block ≡ true → find spot_cmp spot o.blocks ≡ Some staged → blocks_in new block ≡ staged.bytes)
+      unfoldable pub point_is_planned : ((spot : Spot) (block : ℕ) (staged : Block) → find spot_cmp spot placed ≡ Some block → is_among fresh block ≡ true → find spot_cmp spot o.blocks ≡ Some staged → blocks_in new block ≡ staged.bytes)
           → PointIsPlanned old new o m placed fresh
       point_is_planned written = record {
         root = root_planned;
