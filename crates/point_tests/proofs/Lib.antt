@@ -1,0 +1,2 @@
+mod SlotsNow
+mod StagedNow
