@@ -1,17 +1,21 @@
 -- Damaged blocks are among those that are read.
 use Rattle.std.proofs.Common.{◌≡◌, ◌≢◌, ◌<◌, ◌∙◌, ℕ, zero, suc, ◌==◌, ◌||◌, Bool, true, false, List, [], ◌∷◌, refl, sym, subst, set, arith}
-use Rattle.std.specs.Prelude.{if◌then◌else◌, not, slice_index, nat_eq, Result, Ok, Err, IsErrOf, IsErrAnd}
+use Rattle.std.specs.Prelude.{All, take, if◌then◌else◌, not, slice_index, nat_eq, Result, Ok, Err, IsErrOf, IsErrAnd}
 use Rattle.std.proofs.lemmas.Bool.Decides.{nat_tests}
-use Rattle.std.proofs.lemmas.List.{get_or-set_other}
+use Rattle.std.proofs.lemmas.List.{get_or-set_other, take_all}
 use Rattle.place_words.specs.Different.{is_among}
+use Rattle.vol_numbers.specs.Layout.{Layout}
+use Rattle.block_format.specs.Words.{words}
+use Rattle.block_format.specs.Counts.{SpellsCounts}
+use Rattle.block_format.specs.Index.{IsPointer, SpellsIndex}
 use Rattle.block_tree.specs.Tree.{Blocks, index_at, leaf_below, indexes_below, nonzero}
-use Rattle.block_tree.specs.Causes.{IfLookDamaged, IfTreeDamaged, IsBlockOf, IsBlockAmong}
+use Rattle.block_tree.specs.Causes.{as_tree_fault, IfLookDamaged, IfTreeDamaged, IsBlockOf, IsBlockAmong}
 use Rattle.block_tree.specs.Root.{tree_indexes}
 use Rattle.block_tree.specs.Parts.{SameEntries}
 use Rattle.block_tree.specs.Opened.{Opens}
 use Rattle.block_tree.specs.declared.root.TreeRoot.{TreeRoot}
 use Rattle.block_tree.specs.declared.fault.LookFault.{LookFault}
-use Rattle.block_tree.specs.declared.fault.LookFault.TheVariants.{Damaged}
+use Rattle.block_tree.specs.declared.fault.LookFault.TheVariants.{Device, Damaged}
 use Rattle.block_tree.specs.declared.fault.TreeFault.{TreeFault}
 use Rattle.block_tree.specs.declared.fault.TreeFault.TheVariants as trees
 
@@ -65,6 +69,15 @@ damage_like (Err trees.Device) fault known fact same is weaker = tt
 damage_like (Err (trees.Damaged b)) fault known fact same is weaker = weaker b (subst (λ (f : TreeFault). IfTreeDamaged {T = ℕ} (Err f) known) (sym same) is)
 damage_like (Err trees.OutOfMemory) fault known fact same is weaker = tt
 
+-- the same of a fault that is passed on as one of a tree
+pub look_passed : {T : Type 0} (r : Result T TreeFault) (fault : LookFault) (known fact : ℕ → Type 0) → IsErrAnd r (λ f. f ≡ as_tree_fault fault) → IfLookDamaged {T = ℕ} (Err fault) known → ((b : ℕ) → known b → fact b) → IfTreeDamaged r fact
+look_passed (Ok value) fault known fact same is weaker = tt
+look_passed {T = T} (Err f) fault known fact same is weaker = subst (λ (e : TreeFault). IfTreeDamaged {T = T} (Err e) fact) (sym same) (by fault is)
+  where
+    by : (fault : LookFault) → IfLookDamaged {T = ℕ} (Err fault) known → IfTreeDamaged {T = T} (Err (as_tree_fault fault)) fact
+    by Device is = tt
+    by (Damaged b) is = weaker b is
+
 -- the leaves of a tree that is opened
 pub opened_among : {read : Blocks} {root : TreeRoot} {top : ℕ} {was leaves first : List ℕ} → Opens read root top was leaves first → (j b : ℕ) → j < 1024 → IsBlockOf (slice_index leaves j) b → is_among (tree_indexes read root) b ≡ true
 opened_among {read = read} {root = root} opened j b lt of = leaf_among read root.height root.ptr j b (block_like (opened.blocks j lt) of)
@@ -76,3 +89,11 @@ rest_among {leaves = leaves} opened new b among = opened_among opened among.at b
 -- the leaves of a top index that is read
 pub top_among : (read : Blocks) (height ptr : ℕ) (tops : List ℕ) → height ≡ 2 → SameEntries (index_at read ptr) tops → (b : ℕ) → IsBlockAmong 0 tops b → is_among (indexes_below read height ptr) b ≡ true
 top_among read height ptr tops two same b among = rw two (leaf_among read 2 ptr among.at b (block_like (sym (same.each among.at)) among.block))
+
+-- numbers of a block that are pointers are an index
+pub index_of_counts : (g : Layout) (bytes : List ℕ) → SpellsCounts (words bytes) bytes → All (IsPointer g) (take 1024 (words bytes)) → SpellsIndex g (words bytes) bytes
+index_of_counts g bytes counts all = record {
+  count = counts.count;
+  each = subst (λ (ps : List ℕ). All (IsPointer g) ps) (take_all 1024 (words bytes) (omega (arith, counts.count))) all;
+  spelled = counts.spelled;
+}

@@ -1,9 +1,10 @@
 -- Causes of faults.
-use Rattle.std.specs.Prelude.{◌≡◌, ◌≢◌, ◌<◌, ◌≤◌, ◌+◌, ◌-◌, ◌^◌, ℕ, Bool, IsTrue, min, slice_index, List, Result, Ok, Err}
+use Rattle.std.specs.Prelude.{◌≡◌, ◌≢◌, ◌<◌, ◌≤◌, ◌+◌, ◌-◌, ◌^◌, ℕ, Bool, IsTrue, min, slice_index, List, All, take, Result, Ok, Err}
 use Rattle.vol_numbers.specs.Cause.{raised}
 use Rattle.vol_numbers.specs.Layout.{Layout}
 use Rattle.disk_model.specs.Disk.{Given}
-use Rattle.block_format.specs.Index.{SpellsIndex}
+use Rattle.block_format.specs.Words.{words}
+use Rattle.block_format.specs.Index.{IsPointer, SpellsIndex}
 use Rattle.block_tree.specs.Tree.{Blocks}
 use Rattle.block_tree.specs.declared.fault.LookFault.{LookFault}
 use Rattle.block_tree.specs.declared.fault.LookFault.TheVariants.{Device, Damaged}
@@ -26,11 +27,13 @@ HasTreeCause old new (Err trees.Device) = new ≡ raised old
 HasTreeCause old new (Err (trees.Damaged b)) = new ≡ old
 HasTreeCause old new (Err trees.OutOfMemory) = new ≡ old
 
--- The block that was read last in the call is this one, and is outside the grammar of an index. Where the disk tells its contents, it is what they have there.
+-- The block that was read last in the call is this one, and is outside the grammar of an index: some pointer in it leads neither nowhere nor
+-- into the area. Where the disk tells its contents, it is what they have there.
 pub record IsDamage (g : Layout) (tells : Bool) (contents : Blocks) (old new : Given) (b : ℕ) : Type 0 where
   pub number : new.at ≡ b
   pub rose : min (old.count + 1) (2 ^ 64 - 1) ≤ new.count
   pub outside : (ptrs : List ℕ) → SpellsIndex g ptrs new.block.bytes → ⊥
+  pub pointer : All (IsPointer g) (take 1024 (words new.block.bytes)) → ⊥
   pub stands : IsTrue tells → contents b ≡ new.block.bytes
 
 abbrev pub IsLookDamage : {T : Type 0} → Layout → Bool → Blocks → Given → Given → Result T LookFault → Type 0

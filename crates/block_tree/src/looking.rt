@@ -11,7 +11,7 @@ ghost use Rattle.block_tree.specs.Causes.{HasLookCause, IsLookDamage, IfLookDama
 ghost use Rattle.block_tree.specs.declared.fault.LookFault.TheVariants.{Damaged};
 
 use crate::{LookFault, TreeRoot};
-use block_format::{Index, read_index};
+use block_format::{Index, counts_of_block, read_index};
 use disk_model::{Disk, DiskFault};
 use vol_numbers::{Block, BlockNo, Fbn, Geometry};
 
@@ -86,7 +86,11 @@ pub(crate) fn entries<D: Disk>(disk: &mut D, g: &Geometry, at: BlockNo) -> Resul
     }
     match read_index(&block, g) {
         Some(index) => Ok(index),
-        None => Err(LookFault::Damaged(at)),
+        None => {
+            // Each block spells numbers, so that this one has a number that is no pointer.
+            counts_of_block(&block);
+            Err(LookFault::Damaged(at))
+        }
     }
 }
 

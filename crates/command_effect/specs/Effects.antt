@@ -1,5 +1,5 @@
 -- Effects of commands.
-use Rattle.std.specs.Prelude.{◌≡◌, ◌<◌, ℕ, [], length, All, Option}
+use Rattle.std.specs.Prelude.{◌≡◌, ◌<◌, ℕ, [], length, All, Option, Some}
 use Rattle.block_format.specs.Inode.{blocks_of}
 use Rattle.block_format.specs.declared.inode.Inode.TheVariants.{File}
 use Rattle.dirty_store.specs.declared.effect.Effect.{Effect}
@@ -9,6 +9,7 @@ use Rattle.node_table.specs.declared.change.Change.{Change}
 use Rattle.node_table.specs.declared.change.Change.TheVariants.{Made, Sized, Removed, Renamed}
 use Rattle.point_plan.specs.State.{size_in}
 use Rattle.tree_model.specs.declared.command.Command.{Command}
+use Rattle.tree_model.specs.declared.command.Command.TheVariants.{Truncate}
 
 -- some table comes of the change, which does the command
 abbrev pub CanDo : Command → Change → Nodes → Type 0
@@ -20,6 +21,11 @@ IsOfNodes (Made parent slot number) = Unit {0}
 IsOfNodes (Sized number size) = ⊥
 IsOfNodes (Removed parent slot number) = Unit {0}
 IsOfNodes (Renamed number from from_slot to to_slot) = Unit {0}
+
+-- a truncation cuts its file to the blocks of its new size
+abbrev pub CutsToSize : Command → Option ℕ → Type 0
+CutsToSize (Truncate path size) cut = cut ≡ Some (blocks_of size)
+CutsToSize command cut = Unit {0}
 
 -- Each touched place is below the number of blocks of the file, and has a whole block.
 pub record ArePlacesWithin (e : Effect) : Type 0 where

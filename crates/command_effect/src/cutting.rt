@@ -2,7 +2,7 @@
 ghost use Rattle.std.specs.Prelude.{◌≡◌, ◌<◌, ◌≤◌, ◌-◌, ◌/◌, ◌++◌, IfOk, IsTrue, length, take, replicate};
 ghost use Rattle.vol_numbers.specs.Geometry.{layout_of};
 ghost use Rattle.disk_model.specs.Past.{Adds};
-ghost use Rattle.block_tree.specs.Causes.{HasLookCause, HasTreeCause, IsLookDamage, IsTreeDamage};
+ghost use Rattle.block_tree.specs.Causes.{HasLookCause, HasTreeCause, IsLookDamage, IsTreeDamage, IfLookDamaged, IfTreeDamaged};
 ghost use Rattle.block_tree.specs.Tree.{blocks_in};
 ghost use Rattle.inode_file.specs.Loading.{IsWithin};
 ghost use Rattle.volume_model.specs.Machine.{Machine, Rules};
@@ -36,6 +36,8 @@ pub(crate) fn cut_places<D: Disk>(
     ensures are { IfOk result (λ touched. AreFrom (IsCutBlock D.tells (D.state disk.old).contents inodes.now dirty.now.overlay number size) (size / 4096) touched.items) }
     ensures many { IfOk result (λ touched. length touched.items ≡ cut_count before size) }
     ensures damaged { IsTreeDamage (layout_of g.now) D.tells (blocks_in (D.state disk.new).contents) (D.given disk.old) (D.given disk.new) result }
+    // Over contents that stand for something no block is damaged.
+    ensures sound { IsTrue D.tells → (r : Rules) (m : Machine) → HoldsFiles r m (D.state disk.old).contents inodes.now dirty.now.overlay → m.layout ≡ layout_of g.now → IfTreeDamaged result (λ b. ⊥) }
     ensures same { IsTrue D.tells → D.state disk.new ≡ D.state disk.old }
     ensures moments { IsTrue D.tells → Adds (D.past disk.old) (D.past disk.new) (λ s. s ≡ D.state disk.old) }
     ensures fixed { D.fixed disk.new ≡ D.fixed disk.old }
@@ -65,6 +67,8 @@ fn cut_block<D: Disk>(
     requires largest { size ≤ 4294967296 }
     ensures is { IfOk result (λ block. IsCutBlock D.tells (D.state disk.old).contents inodes.now dirty.now.overlay number size (size / 4096) block.bytes) }
     ensures damaged { IsLookDamage (layout_of g.now) D.tells (blocks_in (D.state disk.new).contents) (D.given disk.old) (D.given disk.new) result }
+    // Over contents that stand for something no block is damaged.
+    ensures sound { IsTrue D.tells → (r : Rules) (m : Machine) → HoldsFiles r m (D.state disk.old).contents inodes.now dirty.now.overlay → m.layout ≡ layout_of g.now → IfLookDamaged result (λ b. ⊥) }
     ensures same { IsTrue D.tells → D.state disk.new ≡ D.state disk.old }
     ensures moments { IsTrue D.tells → Adds (D.past disk.old) (D.past disk.new) (λ s. s ≡ D.state disk.old) }
     ensures fixed { D.fixed disk.new ≡ D.fixed disk.old }

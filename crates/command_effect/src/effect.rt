@@ -3,7 +3,7 @@ ghost use Rattle.std.specs.Prelude.{ℕ, ◌≡◌, ◌≤◌, ◌+◌, None, So
 ghost use Rattle.vol_numbers.specs.Geometry.{layout_of};
 ghost use Rattle.disk_model.specs.Past.{Adds};
 ghost use Rattle.place_words.specs.Different.{up};
-ghost use Rattle.block_tree.specs.Causes.{HasTreeCause, IsTreeDamage};
+ghost use Rattle.block_tree.specs.Causes.{HasTreeCause, IsTreeDamage, IfTreeDamaged};
 ghost use Rattle.block_tree.specs.Tree.{blocks_in};
 ghost use Rattle.dirty_store.specs.Overlay.{IsEffect};
 ghost use Rattle.inode_file.specs.Loading.{IsWithin};
@@ -16,7 +16,7 @@ ghost use Rattle.point_model.specs.Staging.{IsEffectOn};
 ghost use Rattle.volume_model.specs.Machine.{Machine, Rules};
 ghost use Rattle.place_read.specs.Holding.{HoldsFiles};
 ghost use Rattle.command_effect.specs.Blocks.{AreFrom, IsCutBlock, IsWrittenBlock, cut_count, written_count};
-ghost use Rattle.command_effect.specs.Effects.{ArePlacesWithin, CanDo, IsOfNodes, IsSizedEffect};
+ghost use Rattle.command_effect.specs.Effects.{ArePlacesWithin, CanDo, CutsToSize, IsOfNodes, IsSizedEffect};
 
 use crate::cutting::cut_places;
 use crate::nodes::node_effect;
@@ -51,10 +51,13 @@ pub fn effect_of<D: Disk>(
     requires done { CanDo command.now change.now nodes.now }
     requires rules { IsChangeWithin change.now }
     ensures built { IfOk result (IsBuiltOf command.now change.now nodes.now) }
+    ensures cut { IfOk result (λ e. CutsToSize command.now e.cut_to) }
     ensures effect { IfOk result IsEffect }
     ensures places { IfOk result ArePlacesWithin }
     ensures on { IfOk result (λ e. IsTrue D.tells → (r : Rules) (m : Machine) → HoldsFiles r m (D.state disk.old).contents inodes.now dirty.now.overlay → HoldsNodes nodes.now m.tree → IsEffectOn m command.now e) }
     ensures damaged { IsTreeDamage (layout_of g.now) D.tells (blocks_in (D.state disk.new).contents) (D.given disk.old) (D.given disk.new) result }
+    // Over contents that stand for something no block is damaged.
+    ensures sound { IsTrue D.tells → (r : Rules) (m : Machine) → HoldsFiles r m (D.state disk.old).contents inodes.now dirty.now.overlay → m.layout ≡ layout_of g.now → IfTreeDamaged result (λ b. ⊥) }
     ensures same { IsTrue D.tells → D.state disk.new ≡ D.state disk.old }
     ensures moments { IsTrue D.tells → Adds (D.past disk.old) (D.past disk.new) (λ s. s ≡ D.state disk.old) }
     ensures fixed { D.fixed disk.new ≡ D.fixed disk.old }
@@ -97,10 +100,13 @@ fn sized_effect<D: Disk>(
     requires number { number ≤ 65535 }
     requires largest { size ≤ 4294967296 }
     ensures built { IfOk result (IsBuiltOf command.now (Sized number size) nodes.now) }
+    ensures cut { IfOk result (λ e. CutsToSize command.now e.cut_to) }
     ensures effect { IfOk result IsEffect }
     ensures places { IfOk result ArePlacesWithin }
     ensures on { IfOk result (λ e. IsTrue D.tells → (r : Rules) (m : Machine) → HoldsFiles r m (D.state disk.old).contents inodes.now dirty.now.overlay → HoldsNodes nodes.now m.tree → IsEffectOn m command.now e) }
     ensures damaged { IsTreeDamage (layout_of g.now) D.tells (blocks_in (D.state disk.new).contents) (D.given disk.old) (D.given disk.new) result }
+    // Over contents that stand for something no block is damaged.
+    ensures sound { IsTrue D.tells → (r : Rules) (m : Machine) → HoldsFiles r m (D.state disk.old).contents inodes.now dirty.now.overlay → m.layout ≡ layout_of g.now → IfTreeDamaged result (λ b. ⊥) }
     ensures same { IsTrue D.tells → D.state disk.new ≡ D.state disk.old }
     ensures moments { IsTrue D.tells → Adds (D.past disk.old) (D.past disk.new) (λ s. s ≡ D.state disk.old) }
     ensures fixed { D.fixed disk.new ≡ D.fixed disk.old }

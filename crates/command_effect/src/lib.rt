@@ -3,7 +3,9 @@
 
 mod cutting;
 mod effect;
+mod laws;
 mod nodes;
 mod writing;
 
 pub use effect::effect_of;
+pub use laws::staging_fits;

@@ -7,16 +7,15 @@ ghost use Rattle.node_table.specs.Held.{Nodes, held, info};
 ghost use Rattle.node_table.specs.declared.change.Change.TheVariants.{Made, Removed, Renamed};
 ghost use Rattle.point_model.specs.NodeChanges.{IsBuiltOf};
 ghost use Rattle.point_model.specs.PointPlan.{told};
-ghost use Rattle.tree_model.specs.Path.{is_root, parent_of};
 ghost use Rattle.tree_model.specs.declared.command.Command.{Command};
 ghost use Rattle.command_effect.specs.Effects.{CanDo, IsOfNodes};
 
 use block_format::{Inode, Slot};
 use dirty_store::{Effect, SlotChange, SlotChangeList, TouchedList};
-use node_table::{Change, NodeInfo, NodeTable};
+use node_table::{Change, NodeInfo, NodeTable, last_name};
 use std::alloc::{AllocError, Global};
-use tree_model::{Command, Path};
-use vol_numbers::{InoNo, Name};
+use tree_model::Command;
+use vol_numbers::InoNo;
 
 /// What a change does that is of no file's size.
 pub(crate) fn node_effect(
@@ -216,13 +215,4 @@ fn two_slots(
         content: entry,
     })?;
     Ok(SlotChangeList::from_vec(slots))
-}
-
-/// The last name of a path that isn't the root's.
-fn last_name(path: &Path) -> &Name
-    requires { is_root path.now ≡ false }
-    ensures { path.now ≡ parent_of path.now ++ result.now ∷ [] }
-{
-    let names = path.names();
-    &names[names.len() - 1]
 }

@@ -2,7 +2,7 @@
 ghost use Rattle.std.specs.Prelude.{◌≡◌, ◌<◌, ◌≤◌, ◌+◌, ◌*◌, ◌/◌, ◌∷◌, ◌++◌, false, [], IfOk, OnOk, IsTrue, length, take, drop};
 ghost use Rattle.vol_numbers.specs.Geometry.{layout_of};
 ghost use Rattle.disk_model.specs.Past.{Adds};
-ghost use Rattle.block_tree.specs.Causes.{HasLookCause, HasTreeCause, IsLookDamage, IsTreeDamage};
+ghost use Rattle.block_tree.specs.Causes.{HasLookCause, HasTreeCause, IsLookDamage, IsTreeDamage, IfLookDamaged, IfTreeDamaged};
 ghost use Rattle.block_tree.specs.Tree.{blocks_in};
 ghost use Rattle.inode_file.specs.Loading.{IsWithin};
 ghost use Rattle.volume_model.specs.Machine.{Machine, Rules, block_at};
@@ -35,6 +35,8 @@ pub(crate) fn written_places<D: Disk>(
     ensures are { IfOk result (λ touched. AreFrom (IsWrittenBlock D.tells (D.state disk.old).contents inodes.now dirty.now.overlay number offset given.now) (offset / 4096) touched.items) }
     ensures many { IfOk result (λ touched. length touched.items ≡ written_count offset given.now) }
     ensures damaged { IsTreeDamage (layout_of g.now) D.tells (blocks_in (D.state disk.new).contents) (D.given disk.old) (D.given disk.new) result }
+    // Over contents that stand for something no block is damaged.
+    ensures sound { IsTrue D.tells → (r : Rules) (m : Machine) → HoldsFiles r m (D.state disk.old).contents inodes.now dirty.now.overlay → m.layout ≡ layout_of g.now → IfTreeDamaged result (λ b. ⊥) }
     ensures same { IsTrue D.tells → D.state disk.new ≡ D.state disk.old }
     ensures moments { IsTrue D.tells → Adds (D.past disk.old) (D.past disk.new) (λ s. s ≡ D.state disk.old) }
     ensures fixed { D.fixed disk.new ≡ D.fixed disk.old }
@@ -67,6 +69,8 @@ fn push_places<D: Disk>(
     ensures are { OnOk result (AreFrom (IsWrittenBlock D.tells (D.state disk.old).contents inodes.now dirty.now.overlay number offset given.now) (offset / 4096) touched.new.items) }
     ensures many { OnOk result (length touched.new.items ≡ written_count offset given.now) }
     ensures damaged { IsTreeDamage (layout_of g.now) D.tells (blocks_in (D.state disk.new).contents) (D.given disk.old) (D.given disk.new) result }
+    // Over contents that stand for something no block is damaged.
+    ensures sound { IsTrue D.tells → (r : Rules) (m : Machine) → HoldsFiles r m (D.state disk.old).contents inodes.now dirty.now.overlay → m.layout ≡ layout_of g.now → IfTreeDamaged result (λ b. ⊥) }
     ensures same { IsTrue D.tells → D.state disk.new ≡ D.state disk.old }
     ensures moments { IsTrue D.tells → Adds (D.past disk.old) (D.past disk.new) (λ s. s ≡ D.state disk.old) }
     ensures fixed { D.fixed disk.new ≡ D.fixed disk.old }
@@ -100,6 +104,8 @@ fn written_block<D: Disk>(
     requires reaches { 4096 * place < offset + length given.now }
     ensures is { IfOk result (λ block. IsWrittenBlock D.tells (D.state disk.old).contents inodes.now dirty.now.overlay number offset given.now place block.bytes) }
     ensures damaged { IsLookDamage (layout_of g.now) D.tells (blocks_in (D.state disk.new).contents) (D.given disk.old) (D.given disk.new) result }
+    // Over contents that stand for something no block is damaged.
+    ensures sound { IsTrue D.tells → (r : Rules) (m : Machine) → HoldsFiles r m (D.state disk.old).contents inodes.now dirty.now.overlay → m.layout ≡ layout_of g.now → IfLookDamaged result (λ b. ⊥) }
     ensures same { IsTrue D.tells → D.state disk.new ≡ D.state disk.old }
     ensures moments { IsTrue D.tells → Adds (D.past disk.old) (D.past disk.new) (λ s. s ≡ D.state disk.old) }
     ensures fixed { D.fixed disk.new ≡ D.fixed disk.old }
@@ -132,6 +138,8 @@ fn old_block<D: Disk>(
     ensures whole { IfOk result (λ block. length block.bytes ≡ 4096) }
     ensures read { IfOk result (λ block. is_covered ≡ false → IsTrue D.tells → (r : Rules) (m : Machine) → HoldsFiles r m (D.state disk.old).contents inodes.now dirty.now.overlay → block.bytes ≡ block_at m.tree (number, place)) }
     ensures damaged { IsLookDamage (layout_of g.now) D.tells (blocks_in (D.state disk.new).contents) (D.given disk.old) (D.given disk.new) result }
+    // Over contents that stand for something no block is damaged.
+    ensures sound { IsTrue D.tells → (r : Rules) (m : Machine) → HoldsFiles r m (D.state disk.old).contents inodes.now dirty.now.overlay → m.layout ≡ layout_of g.now → IfLookDamaged result (λ b. ⊥) }
     ensures same { IsTrue D.tells → D.state disk.new ≡ D.state disk.old }
     ensures moments { IsTrue D.tells → Adds (D.past disk.old) (D.past disk.new) (λ s. s ≡ D.state disk.old) }
     ensures fixed { D.fixed disk.new ≡ D.fixed disk.old }

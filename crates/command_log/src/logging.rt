@@ -37,6 +37,7 @@ pub fn log<D: Disk>(
     ensures slot { IfOk result (λ next. next.slot < 2) }
     ensures grammar { IfOk result (λ next. HasGeometry (root_of next.body)) }
     ensures root { IfOk result (λ next. root_of next.body ≡ next_root (root_of current.now.body) command.now) }
+    ensures geometry { IfOk result (λ next. next.body.geometry ≡ current.now.body.geometry) }
     ensures selector { IfOk result (λ next. IsTrue D.tells → slice_get (D.state disk.new).contents 0 ≡ Some (selector_block next.slot)) }
     ensures current { IfOk result (λ next. IsTrue D.tells → HasCurrent next.slot (root_of next.body) (D.state disk.new)) }
     ensures next { OnOk result (IsTrue D.tells → HasNext (D.state disk.old).contents (D.state disk.new).contents command.now) }
@@ -70,6 +71,7 @@ fn next_body(body: &RootBody, blocks: u32) -> RootBody
     requires some { 1 ≤ blocks }
     requires room { body.now.log_used + blocks ≤ (root_of body.now).layout.log_blocks }
     ensures next { root_of result ≡ record (root_of body.now) { records = body.now.records + 1; log_used = body.now.log_used + blocks } }
+    ensures geometry { result.geometry ≡ body.now.geometry }
     ensures grammar { HasGeometry (root_of result) }
 {
     let mut next = *body;

@@ -4,7 +4,7 @@ use Rattle.vol_numbers.specs.Layout.{area_size}
 use Rattle.disk_model.specs.Disk.{State}
 use Rattle.disk_model.specs.Media.{Fixed, image_named}
 use Rattle.wire_ends.specs.Ends.{Output, Puts, PutsPart}
-use Rattle.log_volume.specs.Formatting.{IsFormatted}
+use Rattle.volume_format.specs.Formatting.{IsFormatted}
 use Rattle.command_server.specs.Words.{Request, Format, Serve, Check}
 use Rattle.command_server.specs.Texts.{usage_text, formatted_text}
 use Rattle.command_server.specs.declared.status.Status.{Status}

@@ -69,6 +69,8 @@ pub fn take<D: Disk>(
     ensures long { HasWritten result → IsTrue D.tells → (r : Rules) (m : Machine) → IsHeld r m (D.state disk.old) state.old → is_short m ≡ false }
     // A damaged block is the one that was read last, and is outside the grammar.
     ensures damaged { (b : ℕ) → IsErrOf result (Damaged b) → IsDamage (layout_of state.old.geometry) D.tells (blocks_in (D.state disk.old).contents) (D.given disk.old) (D.given disk.new) b }
+    // Over a disk that tells its contents no block is damaged, since disk and memory hold a machine.
+    ensures sound { (b : ℕ) → IsErrOf result (Damaged b) → IsTrue D.tells → ⊥ }
 
     ensures fixed { D.fixed disk.new ≡ D.fixed disk.old }
     ensures cause { HasPointCause (D.faults disk.old) (D.faults disk.new) result }
@@ -106,6 +108,8 @@ pub fn carry_out<D: Disk>(
     ensures left { OnErr result (IsTrue D.tells → (r : Rules) (m : Machine) → IsToBeWritten r m (D.state disk.old) state.old plan → EachImage (StandsBetween r m plan.report) (D.state disk.new)) }
     ensures unsynced { OnErr result (IsTrue D.tells → (D.state disk.new).unsynced ≢ []) }
     ensures fixed { D.fixed disk.new ≡ D.fixed disk.old }
+    // Nothing is read.
+    ensures given { D.given disk.new ≡ D.given disk.old }
     ensures cause { HasCause (D.faults disk.old) (D.faults disk.new) result }
 {
     let current = write_plan(disk, state, &plan)?;

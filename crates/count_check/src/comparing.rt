@@ -1,5 +1,5 @@
 //! Compares the counts that are kept with the pointers that were met.
-ghost use Rattle.std.specs.Prelude.{◌≡◌, ◌<◌, ◌≤◌, ◌*◌, ℕ, List, false, length, replicate, get_or, IfOk, IfNone, IsTrue};
+ghost use Rattle.std.specs.Prelude.{◌≡◌, ◌<◌, ◌≤◌, ◌+◌, ◌*◌, ℕ, List, false, length, replicate, get_or, IfOk, IfNone, IsTrue};
 ghost use Rattle.vol_numbers.specs.Geometry.{layout_of};
 ghost use Rattle.vol_numbers.specs.Layout.{count_blocks};
 ghost use Rattle.disk_model.specs.Past.{Adds};
@@ -57,6 +57,7 @@ pub fn counts<D: Disk>(
     ensures long { IfOk result (λ c. length c.counts.counts ≡ 1024 * count_blocks (layout_of body.now.geometry)) }
     ensures untouched { IfOk result (λ c. c.counts.touched ≡ replicate (count_blocks (layout_of body.now.geometry)) false) }
     ensures free { IfOk result (λ c. c.free ≡ free_in (layout_of body.now.geometry) c.counts.counts) }
+    ensures reads { IfOk result (λ c. (D.given disk.new).count ≤ (D.given disk.old).count + count_blocks (layout_of body.now.geometry)) }
 
     ensures same { IsTrue D.tells → D.state disk.new ≡ D.state disk.old }
     ensures moments { IsTrue D.tells → Adds (D.past disk.old) (D.past disk.new) (λ s. s ≡ D.state disk.old) }

@@ -55,6 +55,8 @@ impl CountTable {
         ensures long { IfOk result (λ t. length t.counts ≡ 1024 * count_blocks (layout_of body.now.geometry)) }
         ensures untouched { IfOk result (λ t. t.touched ≡ replicate (count_blocks (layout_of body.now.geometry)) false) }
         ensures given { IfOk result (λ t. GivesLast (D.given disk.new) body.now.homes.bytes (count_blocks (layout_of body.now.geometry)) t.counts) }
+        // It reads each count block once.
+        ensures reads { IfOk result (λ t. (D.given disk.new).count ≤ (D.given disk.old).count + count_blocks (layout_of body.now.geometry)) }
 
         ensures same { IsTrue D.tells → D.state disk.new ≡ D.state disk.old }
         ensures moments { IsTrue D.tells → Adds (D.past disk.old) (D.past disk.new) (λ s. s ≡ D.state disk.old) }

@@ -27,6 +27,7 @@ pub(crate) fn read_table<D: Disk>(
     ensures stand { IfOk result (λ counts. IsTrue D.tells → AllStand (blocks_in (D.state disk.old).contents) body.now.homes.bytes (count_blocks (layout_of body.now.geometry)) counts.items) }
     ensures long { IfOk result (λ counts. length counts.items ≡ 1024 * count_blocks (layout_of body.now.geometry)) }
     ensures given { IfOk result (λ counts. GivesLast (D.given disk.new) body.now.homes.bytes (count_blocks (layout_of body.now.geometry)) counts.items) }
+    ensures reads { IfOk result (λ counts. (D.given disk.new).count ≤ (D.given disk.old).count + count_blocks (layout_of body.now.geometry)) }
     ensures same { IsTrue D.tells → D.state disk.new ≡ D.state disk.old }
     ensures moments { IsTrue D.tells → Adds (D.past disk.old) (D.past disk.new) (λ s. s ≡ D.state disk.old) }
     ensures fixed { D.fixed disk.new ≡ D.fixed disk.old }
@@ -47,6 +48,7 @@ fn read_one<D: Disk>(disk: &mut D, homes: &HomeBits, i: u32) -> Result<[u32; 102
     ensures spelled { IfOk result (λ counts. IsTrue D.tells → words (blocks_in (D.state disk.old).contents (home_of homes.now.bytes i)) ≡ counts) }
     ensures at { IfOk result (λ counts. (D.given disk.new).at ≡ home_of homes.now.bytes i) }
     ensures given { IfOk result (λ counts. words (D.given disk.new).block.bytes ≡ counts) }
+    ensures reads { IfOk result (λ counts. (D.given disk.new).count ≤ (D.given disk.old).count + 1) }
     ensures same { IsTrue D.tells → D.state disk.new ≡ D.state disk.old }
     ensures moments { Adds (D.past disk.old) (D.past disk.new) (λ s. s ≡ D.state disk.old) }
     ensures fixed { D.fixed disk.new ≡ D.fixed disk.old }

@@ -3,7 +3,7 @@ use Rattle.std.proofs.Common.{◌≡◌, ◌≤◌, ◌+◌, ℕ, suc, List, [],
 use Rattle.std.specs.Prelude.{Option, Result, Ok, Err, is_some, Contains}
 use Rattle.std.specs.Option.{option_map}
 use Rattle.std.specs.Result.{IsErrAnd}
-use Rattle.vol_numbers.specs.Layout.{Layout}
+use Rattle.vol_numbers.specs.Layout.{Layout, count_blocks}
 use Rattle.vol_numbers.specs.declared.block.Block.{Block}
 use Rattle.block_format.specs.declared.inode.Inode.{Inode}
 use Rattle.dir_slots.specs.Slots.{number_in}
@@ -12,15 +12,18 @@ use Rattle.place_words.specs.Rising.{Rising}
 use Rattle.tree_model.specs.Tree.{Tree}
 use Rattle.tree_model.specs.declared.command.Command.{Command}
 use Rattle.volume_model.specs.Machine.{Stored}
-use Rattle.volume_model.specs.Space.{free_blocks}
+use Rattle.volume_model.specs.Space.{free_blocks, metadata_blocks}
 use Rattle.image_model.specs.Exact.{IsShownEarly}
 use Rattle.image_model.specs.Finds.{Finds, IsBadLog, early_finding}
+use Rattle.image_model.specs.Met.{metas}
 use Rattle.image_model.specs.Seen.{seen}
+use Rattle.image_model.specs.Sound.{AllGood}
 use Rattle.image_model.specs.Stands.{Stands, Logs, layout_in}
 use Rattle.image_model.specs.declared.finding.Finding.{Finding}
 use Rattle.image_model.specs.declared.finding.Finding.TheVariants.{BadLog}
 use Rattle.image_model.proofs.ExactLaws.{standing_has_none}
 use Rattle.image_model.proofs.ShownEarly.{none_found_shows}
+use Rattle.image_model.proofs.SpaceLaws.{metadata_seen}
 use Rattle.node_table.specs.Held.{Nodes, HoldsNodes, held, info, slots_of}
 use Rattle.node_table.specs.declared.held.HeldNode.{HeldNode}
 use Rattle.log_check.specs.Cause.{IfFound}
@@ -30,6 +33,7 @@ use Rattle.log_check.specs.declared.fault.LogCheckFault.{LogCheckFault}
 use Rattle.log_check.specs.declared.fault.LogCheckFault.TheVariants as logs
 use Rattle.fs_check.specs.Checked.{IsEarly, IsFaultOf, IsVerdict, StandsWith, AreAccepted}
 use Rattle.block_format.specs.Root.{Root, root_of}
+use Rattle.block_tree.specs.Tree.{blocks_in}
 use Rattle.block_format.specs.declared.root.RootBody.{RootBody}
 use Rattle.root_switch.specs.Current.{root_of_image}
 use Rattle.image_model.specs.Findings.{body_finding, free_in}
@@ -115,6 +119,16 @@ is_early image body l none root looked formed = record {
   directories_are = looked.directories;
   free_is = formed.free ∙ (ap (free_in (root_of body).layout) looked.counts ∙ ap (λ (r : Root). free_in r.layout (seen image).kept) (sym root));
 }
+
+metadata_met : (image : List Block) (s : Stored) → Stands image s → metadata_blocks s.tree s.places ≡ length (metas (seen image).met)
+unfolding seen
+metadata_met image s stands =
+    metadata_seen (blocks_in image) (root_of_image image).inode_index (root_of_image image).homes (count_blocks (layout_in image)) (layout_in image) s stands.sound.pointers stands.sound.directories stands.sound.named stands.shows
+
+-- the blocks of metadata that were counted are those of the formula
+pub metadata_is : (image : List Block) (body : RootBody) (l : Looked) (s : Stored) → root_of_image image ≡ root_of body → IsLookedAt image body l → Stands image s → l.metadata ≡ metadata_blocks s.tree s.places
+metadata_is image body l s root looked stands =
+    looked.metadata (subst (λ (r : Root). AllGood r.layout (seen image).met (seen image).met) root stands.sound.pointers) ∙ sym (metadata_met image s stands)
 
 pub found_at : (T : Type 0) (fault : LogCheckFault) (P : ℕ → Type 0) → IfFound {T = T} (Err fault) P → (i : ℕ) → fault ≡ logs.Found i → P i
 found_at T fault P has i same = subst (λ (f : LogCheckFault). IfFound {T = T} (Err f) P) same has

@@ -13,7 +13,7 @@ use Rattle.tree_model.specs.Shape.{IsTree}
 use Rattle.tree_model.specs.declared.command.Command.{Command}
 use Rattle.volume_model.specs.Accepted.{Accepts}
 use Rattle.volume_model.specs.Machine.{Stored}
-use Rattle.volume_model.specs.Space.{free_blocks}
+use Rattle.volume_model.specs.Space.{free_blocks, metadata_blocks}
 use Rattle.image_model.specs.Finds.{Finds, early_finding}
 use Rattle.image_model.specs.Findings.{free_in}
 use Rattle.image_model.specs.Seen.{seen}
@@ -21,7 +21,7 @@ use Rattle.image_model.specs.Stands.{Stands, layout_in}
 use Rattle.node_table.specs.Held.{Nodes, HoldsNodes}
 use Rattle.name_check.specs.Seeing.{HoldsDirectories}
 use Rattle.log_check.specs.Accepting.{HoldsATree}
-use Rattle.log_check.specs.Holding.{HoldsEachTree, IsTableOf}
+use Rattle.log_check.specs.Holding.{AreNodes, HoldsEachTree, IsTableOf}
 use Rattle.fs_check.specs.declared.checking.Summary.{Summary}
 use Rattle.fs_check.specs.declared.examining.Examined.{Examined}
 use Rattle.fs_check.specs.declared.fault.CheckFault.{CheckFault}
@@ -46,7 +46,8 @@ pub record IsSummed (image : List Block) (sum : Summary) : Type 0 where
   pub records : sum.records ≡ length stored.records
   pub free : sum.free ≡ free_blocks stored.layout stored.tree stored.places
 
--- The image stands for something, and what was loaded is that: the root, the counts in the homes that it names, the directories, the nodes of the tree, and the records.
+-- The image stands for something, and what was loaded is that: the root, the counts in the homes that it names, the directories, the nodes of the tree, their
+-- inodes, and the records.
 pub record IsLoaded (image : List Block) (e : Examined) : Type 0 where
   pub stored : Stored
   pub stands : Stands image stored
@@ -56,12 +57,14 @@ pub record IsLoaded (image : List Block) (e : Examined) : Type 0 where
   pub kept : IsKept (blocks_in image) e.current.body.homes.bytes e.counts
   pub directories : HoldsDirectories (seen image) e.directories
   pub nodes : HoldsNodes e.nodes stored.tree
+  pub inodes : (seen image).nodes ≡ e.inodes
   pub used : e.used ≡ length (seen image).nodes
   pub records : stored.records ≡ e.records
   pub free : e.free ≡ free_blocks stored.layout stored.tree stored.places
+  pub metadata : e.metadata ≡ metadata_blocks stored.tree stored.places
 
--- What holds on every disk of this size: there is a root within its rules, each count block is there and untouched, the table holds a tree, and
--- that accepts the records.
+-- What holds on every disk of this size: there is a root within its rules, each count block is there and untouched, the table has the nodes of the inodes,
+-- it holds a tree, and that accepts the records.
 pub record IsFit (size : ℕ) (e : Examined) : Type 0 where
   pub slot : e.current.slot < 2
   pub grammar : HasGeometry (root_of e.current.body)
@@ -69,6 +72,8 @@ pub record IsFit (size : ℕ) (e : Examined) : Type 0 where
   pub long : length e.counts.counts ≡ 1024 * count_blocks (root_of e.current.body).layout
   pub untouched : e.counts.touched ≡ replicate (count_blocks (root_of e.current.body).layout) false
   pub free : e.free ≡ free_in (root_of e.current.body).layout e.counts.counts
+  pub are : AreNodes e.inodes e.directories
+  pub table : IsTableOf e.inodes e.directories e.nodes
   pub a_tree : HoldsATree e.nodes
   pub have_records : All HasRecord e.records
   pub accepted : (s : Stored) → IsTree s.tree → HoldsNodes e.nodes s.tree → Accepts e.free s.tree 0 e.records

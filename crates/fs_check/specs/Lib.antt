@@ -4,3 +4,4 @@ pub mod Faults
 pub mod Left
 pub mod Looked
 pub mod Phases
+pub mod Reads

@@ -2,11 +2,14 @@
 use Rattle.std.specs.Prelude.{◌≡◌, ◌*◌, false, List, length, replicate}
 use Rattle.vol_numbers.specs.Layout.{Layout, count_blocks}
 use Rattle.vol_numbers.specs.declared.block.Block.{Block}
+use Rattle.block_format.specs.Root.{root_of}
 use Rattle.block_format.specs.declared.root.RootBody.{RootBody}
 use Rattle.count_pairs.specs.Homes.{blocks_in}
 use Rattle.count_pairs.specs.Table.{IsKept}
 use Rattle.image_model.specs.Findings.{free_in}
+use Rattle.image_model.specs.Met.{metas}
 use Rattle.image_model.specs.Seen.{seen}
+use Rattle.image_model.specs.Sound.{AllGood}
 use Rattle.name_check.specs.Seeing.{HoldsDirectories}
 use Rattle.log_check.specs.Holding.{AreNodes, FindsNoneLost}
 use Rattle.fs_check.specs.declared.looking.Looked.{Looked}
@@ -17,6 +20,8 @@ pub record IsLookedAt (image : List Block) (body : RootBody) (l : Looked) : Type
   pub directories : HoldsDirectories (seen image) l.directories
   pub counts : l.counts.counts ≡ (seen image).kept
   pub kept : IsKept (blocks_in image) body.homes.bytes l.counts
+  -- where each block of metadata has one pointer
+  pub metadata : AllGood (root_of body).layout (seen image).met (seen image).met → l.metadata ≡ length (metas (seen image).met)
 
 -- On every disk: the nodes have their directories, none is lost, and each count block is there and untouched.
 pub record IsWellFormed (g : Layout) (l : Looked) : Type 0 where

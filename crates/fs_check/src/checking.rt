@@ -1,8 +1,9 @@
 //! Checks a volume.
-ghost use Rattle.std.specs.Prelude.{◌≡◌, IsTrue};
+ghost use Rattle.std.specs.Prelude.{◌≡◌, ◌≤◌, ◌+◌, IfOk, IsTrue};
 ghost use Rattle.disk_model.specs.Past.{Adds};
 ghost use Rattle.fs_check.specs.Cause.{HasFsCause};
 ghost use Rattle.fs_check.specs.Checked.{IsVerdict, IsSummed};
+ghost use Rattle.fs_check.specs.Reads.{reads_of};
 
 use crate::{CheckFault, examine};
 use disk_model::Disk;
@@ -27,6 +28,7 @@ pub struct Summary {
 pub fn check<D: Disk>(alloc: Global, disk: &mut D) -> Result<Summary, CheckFault>
     // On a disk that tells its contents: they stand for something, which has these numbers. Or they have this finding, and stand for nothing.
     ensures verdict { IsTrue D.tells → IsVerdict (D.state disk.old).contents (IsSummed (D.state disk.old).contents) result }
+    ensures reads { IfOk result (λ sum. IsTrue D.tells → (D.given disk.new).count ≤ (D.given disk.old).count + reads_of (D.state disk.old).contents) }
     ensures same { IsTrue D.tells → D.state disk.new ≡ D.state disk.old }
     ensures moments { IsTrue D.tells → Adds (D.past disk.old) (D.past disk.new) (λ s. s ≡ D.state disk.old) }
     ensures fixed { D.fixed disk.new ≡ D.fixed disk.old }

@@ -1,5 +1,5 @@
 //! The counts that are kept, and the reserve.
-ghost use Rattle.std.specs.Prelude.{◌≡◌, ◌*◌, false, IfOk, IsTrue, length, replicate};
+ghost use Rattle.std.specs.Prelude.{◌≡◌, ◌≤◌, ◌+◌, ◌*◌, false, IfOk, IsTrue, length, replicate};
 ghost use Rattle.vol_numbers.specs.Layout.{count_blocks};
 ghost use Rattle.disk_model.specs.Past.{Adds};
 ghost use Rattle.block_format.specs.Root.{root_of};
@@ -34,6 +34,7 @@ pub(crate) fn good_counts<D: Disk>(
     ensures long { IfOk result (λ c. length c.counts.counts ≡ 1024 * count_blocks (root_of body.now).layout) }
     ensures untouched { IfOk result (λ c. c.counts.touched ≡ replicate (count_blocks (root_of body.now).layout) false) }
     ensures free { IfOk result (λ c. c.free ≡ free_in (root_of body.now).layout c.counts.counts) }
+    ensures reads { IfOk result (λ c. (D.given disk.new).count ≤ (D.given disk.old).count + count_blocks (root_of body.now).layout) }
     ensures same { IsTrue D.tells → D.state disk.new ≡ D.state disk.old }
     ensures moments { IsTrue D.tells → Adds (D.past disk.old) (D.past disk.new) (λ s. s ≡ D.state disk.old) }
     ensures fixed { D.fixed disk.new ≡ D.fixed disk.old }

@@ -1,5 +1,5 @@
 //! Examines a volume, and loads what a mount needs of it.
-ghost use Rattle.std.specs.Prelude.{◌≡◌, IfOk, IsTrue};
+ghost use Rattle.std.specs.Prelude.{◌≡◌, ◌≤◌, ◌+◌, IfOk, IsTrue};
 ghost use Rattle.disk_model.specs.Past.{Adds};
 ghost use Rattle.block_format.specs.Root.{root_of, HasGeometry};
 ghost use Rattle.root_switch.specs.Current.{current_slot, root_of_image};
@@ -8,6 +8,7 @@ ghost use Rattle.std.specs.Prelude.{◌<◌, None};
 ghost use Rattle.fs_check.specs.Cause.{HasFsCause};
 ghost use Rattle.fs_check.specs.Checked.{IsVerdict, IsLoaded, IsFit};
 ghost use Rattle.fs_check.specs.Looked.{IsLookedAt, IsWellFormed};
+ghost use Rattle.fs_check.specs.Reads.{reads_of};
 
 use crate::CheckFault;
 use crate::logging::load_log;
@@ -16,6 +17,7 @@ use crate::root::current_root;
 use count_pairs::CountTable;
 use disk_model::Disk;
 use held_list::HeldList;
+use image_walk::NodeList;
 use node_table::NodeTable;
 use op_log::CommandList;
 use root_switch::Current;
@@ -30,12 +32,16 @@ pub struct Examined {
     pub directories: HeldList,
     /// All nodes, as at the last point.
     pub nodes: NodeTable,
+    /// The used inodes by number, as at the last point.
+    pub inodes: NodeList,
     /// How many nodes there are.
     pub used: u32,
     /// The commands that the log has behind the last point.
     pub records: CommandList,
     /// How many blocks are free at the last point.
     pub free: u32,
+    /// How many blocks of metadata the last point has.
+    pub metadata: u32,
 }
 
 /// Examines the volume on a disk, phase by phase, up to the first finding.
@@ -50,6 +56,8 @@ pub fn examine<D: Disk>(alloc: Global, disk: &mut D) -> Result<Examined, CheckFa
     // On a disk that tells its contents: they stand for something, and that is loaded. Or they have this finding, and stand for nothing.
     ensures verdict { IsTrue D.tells → IsVerdict (D.state disk.old).contents (IsLoaded (D.state disk.old).contents) result }
     ensures fit { IfOk result (IsFit (D.fixed disk.old).size) }
+    // Each block of metadata, each file's last block, each count block and each used block of the log is read once.
+    ensures reads { IfOk result (λ e. IsTrue D.tells → (D.given disk.new).count ≤ (D.given disk.old).count + reads_of (D.state disk.old).contents) }
     ensures same { IsTrue D.tells → D.state disk.new ≡ D.state disk.old }
     ensures moments { IsTrue D.tells → Adds (D.past disk.old) (D.past disk.new) (λ s. s ≡ D.state disk.old) }
     ensures fixed { D.fixed disk.new ≡ D.fixed disk.old }
@@ -75,6 +83,7 @@ fn with_log<D: Disk>(
     ensures verdict { IsTrue D.tells → early_finding (D.state disk.old).contents ≡ None → current.now.slot ≡ current_slot (D.state disk.old).contents → IsLookedAt (D.state disk.old).contents current.now.body looked
         → IsVerdict (D.state disk.old).contents (IsLoaded (D.state disk.old).contents) result }
     ensures fit { IfOk result (IsFit (D.fixed disk.old).size) }
+    ensures reads { IfOk result (λ e. (D.given disk.new).count ≤ (D.given disk.old).count + current.now.body.log_used) }
     ensures same { IsTrue D.tells → D.state disk.new ≡ D.state disk.old }
     ensures moments { IsTrue D.tells → Adds (D.past disk.old) (D.past disk.new) (λ s. s ≡ D.state disk.old) }
     ensures fixed { D.fixed disk.new ≡ D.fixed disk.old }
@@ -87,8 +96,10 @@ fn with_log<D: Disk>(
         counts: looked.counts,
         directories: looked.directories,
         nodes,
+        inodes: looked.nodes,
         used,
         records,
         free: looked.free,
+        metadata: looked.metadata,
     })
 }

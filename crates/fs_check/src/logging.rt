@@ -1,5 +1,5 @@
 //! The log.
-ghost use Rattle.std.specs.Prelude.{◌≡◌, All, List, IfOk, IsTrue};
+ghost use Rattle.std.specs.Prelude.{◌≡◌, ◌≤◌, ◌+◌, All, List, IfOk, IsTrue};
 ghost use Rattle.disk_model.specs.Past.{Adds};
 ghost use Rattle.block_format.specs.Root.{root_of, HasGeometry};
 ghost use Rattle.root_switch.specs.Current.{root_of_image};
@@ -36,6 +36,7 @@ pub(crate) fn load_log<D: Disk>(
     requires formed { IsWellFormed (root_of body.now).layout looked.now }
     ensures verdict { IsTrue D.tells → IsEarly (D.state disk.old).contents looked.now.nodes looked.now.directories looked.now.free
         → IsVerdict (D.state disk.old).contents (λ l. StandsWith (D.state disk.old).contents looked.now.nodes looked.now.directories looked.now.free l.0) result }
+    ensures reads { IfOk result (λ l. (D.given disk.new).count ≤ (D.given disk.old).count + body.now.log_used) }
     ensures have_records { IfOk result (λ l. All HasRecord l.0) }
     ensures accepted { IfOk result (λ l. AreAccepted looked.now.nodes looked.now.directories looked.now.free l.0) }
     ensures table { IfOk result (λ l. IsTableOf looked.now.nodes looked.now.directories l.1) }
@@ -67,6 +68,7 @@ fn good_log<D: Disk>(
     requires are { AreNodes nodes.now directories.now }
     requires none_lost { FindsNoneLost nodes.now directories.now }
     ensures verdict { IsTrue D.tells → IsEarly (D.state disk.old).contents nodes.now directories.now free → IsVerdict (D.state disk.old).contents (StandsWith (D.state disk.old).contents nodes.now directories.now free) result }
+    ensures reads { IfOk result (λ records. (D.given disk.new).count ≤ (D.given disk.old).count + body.now.log_used) }
     ensures have_records { IfOk result (All HasRecord) }
     ensures accepted { IfOk result (AreAccepted nodes.now directories.now free) }
     ensures same { IsTrue D.tells → D.state disk.new ≡ D.state disk.old }

@@ -1,5 +1,5 @@
 //! The phases behind the root and before the log, one after the other.
-ghost use Rattle.std.specs.Prelude.{◌≡◌, ◌*◌, false, IfOk, IsTrue, length, replicate};
+ghost use Rattle.std.specs.Prelude.{◌≡◌, ◌≤◌, ◌+◌, ◌*◌, false, IfOk, IsTrue, length, replicate};
 ghost use Rattle.vol_numbers.specs.Geometry.{layout_of};
 ghost use Rattle.vol_numbers.specs.Layout.{count_blocks};
 ghost use Rattle.disk_model.specs.Past.{Adds};
@@ -15,6 +15,8 @@ ghost use Rattle.fs_check.specs.Cause.{HasFsCause};
 ghost use Rattle.fs_check.specs.Left.{IsLeft, IsSeen};
 ghost use Rattle.fs_check.specs.Looked.{IsLookedAt, IsWellFormed};
 ghost use Rattle.fs_check.specs.Phases.{IsPhase, names_finding, rest_finding};
+ghost use Rattle.fs_check.specs.Reads.{reads_behind};
+ghost use Rattle.image_walk.specs.Reads.{file_count};
 
 use crate::CheckFault;
 use crate::counting::good_counts;
@@ -28,7 +30,7 @@ use count_check::Counted;
 use count_pairs::CountTable;
 use disk_model::Disk;
 use held_list::HeldList;
-use image_walk::{NodeList, Walked};
+use image_walk::{NodeList, Walked, count_metadata};
 use std::alloc::Global;
 use vol_numbers::Geometry;
 
@@ -40,6 +42,8 @@ pub(crate) struct Looked {
     pub(crate) counts: CountTable,
     /// How many blocks are free.
     pub(crate) free: u32,
+    /// How many blocks are metadata.
+    pub(crate) metadata: u32,
 }
 
 /// Looks at all that a root leads to, but for the log, in the order of the phases.
@@ -53,6 +57,7 @@ pub(crate) fn look<D: Disk>(
     ensures found { IsTrue D.tells → IsPhase (body_finding (root_of body.now).layout (seen (D.state disk.old).contents)) result }
     ensures looked { IfOk result (λ l. IsTrue D.tells → IsLookedAt (D.state disk.old).contents body.now l) }
     ensures formed { IfOk result (IsWellFormed (root_of body.now).layout) }
+    ensures reads { IfOk result (λ l. IsTrue D.tells → (D.given disk.new).count ≤ (D.given disk.old).count + reads_behind (seen (D.state disk.old).contents) + count_blocks (root_of body.now).layout) }
     ensures same { IsTrue D.tells → D.state disk.new ≡ D.state disk.old }
     ensures moments { IsTrue D.tells → Adds (D.past disk.old) (D.past disk.new) (λ s. s ≡ D.state disk.old) }
     ensures fixed { D.fixed disk.new ≡ D.fixed disk.old }
@@ -60,11 +65,13 @@ pub(crate) fn look<D: Disk>(
 {
     let walked = reach(alloc, disk, body)?;
     let (directories, counted) = names_and_counts(alloc, disk, body, &walked)?;
+    let metadata = count_metadata(&walked.marks, &body.geometry);
     Ok(Looked {
         nodes: walked.nodes,
         directories,
         counts: counted.counts,
         free: counted.free,
+        metadata,
     })
 }
 
@@ -89,6 +96,7 @@ fn names_and_counts<D: Disk>(
     ensures long { IfOk result (λ l. length l.1.counts.counts ≡ 1024 * count_blocks (root_of body.now).layout) }
     ensures untouched { IfOk result (λ l. l.1.counts.touched ≡ replicate (count_blocks (root_of body.now).layout) false) }
     ensures free { IfOk result (λ l. l.1.free ≡ free_in (root_of body.now).layout l.1.counts.counts) }
+    ensures reads { IfOk result (λ l. (D.given disk.new).count ≤ (D.given disk.old).count + file_count walked.now.nodes + length walked.now.pages + count_blocks (root_of body.now).layout) }
     ensures same { IsTrue D.tells → D.state disk.new ≡ D.state disk.old }
     ensures moments { IsTrue D.tells → Adds (D.past disk.old) (D.past disk.new) (λ s. s ≡ D.state disk.old) }
     ensures fixed { D.fixed disk.new ≡ D.fixed disk.old }
@@ -111,6 +119,7 @@ fn good_names<D: Disk>(
     ensures holds { IfOk result (λ held. IsTrue D.tells → (s : Seen) → IsSeen (blocks_in (D.state disk.old).contents) walked.now s → HoldsDirectories s held) }
     ensures are { IfOk result (λ held. AreNodes walked.now.nodes held) }
     ensures none_lost { IfOk result (λ held. FindsNoneLost walked.now.nodes held) }
+    ensures reads { IfOk result (λ held. (D.given disk.new).count ≤ (D.given disk.old).count + file_count walked.now.nodes + length walked.now.pages) }
     ensures same { IsTrue D.tells → D.state disk.new ≡ D.state disk.old }
     ensures moments { IsTrue D.tells → Adds (D.past disk.old) (D.past disk.new) (λ s. s ≡ D.state disk.old) }
     ensures fixed { D.fixed disk.new ≡ D.fixed disk.old }

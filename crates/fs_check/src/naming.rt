@@ -1,5 +1,5 @@
 //! The directories.
-ghost use Rattle.std.specs.Prelude.{◌≡◌, IfOk, IsTrue, map};
+ghost use Rattle.std.specs.Prelude.{◌≡◌, ◌≤◌, ◌+◌, IfOk, IsTrue, length, map};
 ghost use Rattle.disk_model.specs.Past.{Adds};
 ghost use Rattle.block_tree.specs.Tree.{blocks_in};
 ghost use Rattle.image_model.specs.Nodes.{directory_finding};
@@ -27,6 +27,7 @@ pub(crate) fn good_directories<D: Disk>(
     ensures found { IsTrue D.tells → (s : Seen) → IsSeen (blocks_in (D.state disk.old).contents) walked.now s → IsPhase (directory_finding s) result }
     ensures holds { IfOk result (λ held. IsTrue D.tells → (s : Seen) → IsSeen (blocks_in (D.state disk.old).contents) walked.now s → HoldsDirectories s held) }
     ensures are { IfOk result (λ held. AreNodes walked.now.nodes held) }
+    ensures reads { IfOk result (λ held. (D.given disk.new).count ≤ (D.given disk.old).count + length walked.now.pages) }
     ensures same { IsTrue D.tells → D.state disk.new ≡ D.state disk.old }
     ensures moments { IsTrue D.tells → Adds (D.past disk.old) (D.past disk.new) (λ s. s ≡ D.state disk.old) }
     ensures fixed { D.fixed disk.new ≡ D.fixed disk.old }

@@ -1,5 +1,5 @@
 //! The current root: whether there is one, and whether it is within its rules.
-ghost use Rattle.std.specs.Prelude.{◌≡◌, ◌<◌, IfOk, IsTrue};
+ghost use Rattle.std.specs.Prelude.{◌≡◌, ◌<◌, ◌≤◌, ◌+◌, IfOk, IsTrue};
 ghost use Rattle.disk_model.specs.Past.{Adds};
 ghost use Rattle.block_format.specs.Root.{root_of, HasGeometry};
 ghost use Rattle.root_switch.specs.Current.{current_slot, root_of_image};
@@ -19,6 +19,7 @@ pub(crate) fn current_root<D: Disk>(disk: &mut D) -> Result<Current, CheckFault>
     ensures slot { IfOk result (λ c. c.slot < 2) }
     ensures grammar { IfOk result (λ c. HasGeometry (root_of c.body)) }
     ensures size { IfOk result (λ c. (root_of c.body).layout.blocks ≡ (D.fixed disk.old).size) }
+    ensures reads { IfOk result (λ c. (D.given disk.new).count ≤ (D.given disk.old).count + 2) }
     ensures same { IsTrue D.tells → D.state disk.new ≡ D.state disk.old }
     ensures moments { IsTrue D.tells → Adds (D.past disk.old) (D.past disk.new) (λ s. s ≡ D.state disk.old) }
     ensures fixed { D.fixed disk.new ≡ D.fixed disk.old }

@@ -181,9 +181,10 @@ module _ (read : Blocks) (at : ℕ) (homes : List ℕ) (count : ℕ) (g : Layout
       no_index [] ms = refl
       no_index (b ∷ bs) ms = no_index bs ms
 
-  pub free_seen : AllGood g saw.met saw.met → ((node : ℕ × Inode) → Contains (nodes_at read at) node → is_bad_directory saw node ≡ false) → IsNamed saw
-      → ((b : ℕ) → b < 1024 * count_blocks g → get_or saw.kept b 0 ≡ pointers_to b saw.met) → Shows saw s → area_start g ≤ g.blocks → free_in g saw.kept ≡ free_blocks g s.tree s.places
-  free_seen pointers directories named counts shows le =
+  -- the walk meets the metadata of the formula
+  pub metadata_seen : AllGood g saw.met saw.met → ((node : ℕ × Inode) → Contains (nodes_at read at) node → is_bad_directory saw node ≡ false) → IsNamed saw
+      → Shows saw s → metadata_blocks s.tree s.places ≡ length (metas saw.met)
+  metadata_seen pointers directories named shows =
       let nodes = nodes_at read at in
       let met = walk_good read at (no_faults g saw.met saw.met pointers) in
       let distinct = numbers_distinct read at in
@@ -196,6 +197,11 @@ module _ (read : Blocks) (at : ℕ) (homes : List ℕ) (count : ℕ) (g : Layout
       ∙ sym (sum_nodes read nodes nodes (finds_each nodes distinct)) in
       let groups : different (map (λ (e : Path × Node). e.1.number / 64) s.tree) ≡ different (groups_of nodes) =
       ap different (tree_groups s.tree) ∙ different_same _ _ (images_same (λ n. n / 64) (keys s.tree) (numbers nodes) same) in
-      let meta : length (metas saw.met) ≡ metadata_blocks s.tree s.places = omega (arith, met.meta, sums, groups) in
+      omega (arith, met.meta, sums, groups)
+
+  pub free_seen : AllGood g saw.met saw.met → ((node : ℕ × Inode) → Contains (nodes_at read at) node → is_bad_directory saw node ≡ false) → IsNamed saw
+      → ((b : ℕ) → b < 1024 * count_blocks g → get_or saw.kept b 0 ≡ pointers_to b saw.met) → Shows saw s → area_start g ≤ g.blocks → free_in g saw.kept ≡ free_blocks g s.tree s.places
+  free_seen pointers directories named counts shows le =
+      let meta = metadata_seen pointers directories named shows in
       let data_blocks : different (files saw.met) ≡ different (blocks_in_places s.places) = ap different (sym (file_blocks read saw.met) ∙ ap blocks_in_places (sym shows.places)) in
       omega (arith, area_parts g saw.kept saw.met pointers counts le, meta, data_blocks)

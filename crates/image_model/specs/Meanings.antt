@@ -1,5 +1,5 @@
 -- Laws of what an image stands for, and of what may be written without a change of that.
-use Rattle.std.specs.Prelude.{false, ◌≡◌, ◌<◌, ◌≤◌, ℕ, ◌+◌, ◌*◌, List, [], ◌∷◌, ◌++◌, get_or, ◌-◌, true}
+use Rattle.std.specs.Prelude.{false, ◌≡◌, ◌<◌, ◌≤◌, ℕ, ◌+◌, ◌*◌, List, [], ◌∷◌, ◌++◌, length, get_or, ◌-◌, true}
 use Rattle.vol_numbers.specs.Layout.{Layout, count_blocks, log_start}
 use Rattle.block_format.specs.Homes.{home_bit}
 use Rattle.vol_numbers.specs.declared.block.Block.{Block}
@@ -13,10 +13,11 @@ use Rattle.tree_model.specs.declared.reply.Reply.TheVariants as reply
 use Rattle.volume_model.specs.Accepted.{Accepts}
 use Rattle.volume_model.specs.Machine.{Stored}
 use Rattle.volume_model.specs.Done.{mounted}
-use Rattle.volume_model.specs.Space.{free_blocks}
+use Rattle.volume_model.specs.Space.{free_blocks, metadata_blocks}
 use Rattle.image_model.specs.Findings.{free_in, is_in_area}
 use Rattle.image_model.specs.Fresh.{IsFresh, fresh_stored}
 use Rattle.image_model.specs.Live.{IsLive, KeepsLive, OpensNoLive}
+use Rattle.image_model.specs.Met.{metas}
 use Rattle.image_model.specs.Next.{HasNext, and_command}
 use Rattle.image_model.specs.Seen.{seen}
 use Rattle.image_model.specs.Stands.{Stands, layout_in, used_in}
@@ -67,6 +68,10 @@ OldRootStands = (state : State) (slot : ℕ) (image : List Block) (s : Stored) �
 -- The blocks of the area with count 0 are as many as the formula over the tree and its places says.
 abbrev pub FreeIsCounted : Type 0
 FreeIsCounted = (image : List Block) (s : Stored) → Stands image s → free_in (layout_in image) (seen image).kept ≡ free_blocks (layout_in image) s.tree s.places
+
+-- The walk meets as many pointers to metadata as the formula over the tree and its places has blocks of metadata.
+abbrev pub MetadataIsMet : Type 0
+MetadataIsMet = (image : List Block) (s : Stored) → Stands image s → metadata_blocks s.tree s.places ≡ length (metas (seen image).met)
 
 -- What a format leaves stands for the root directory alone.
 abbrev pub FreshStands : Type 0

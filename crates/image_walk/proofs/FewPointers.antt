@@ -13,7 +13,7 @@ use Rattle.block_format.specs.Inode.{inode_in, blocks_of}
 use Rattle.block_format.specs.declared.inode.Inode.{Inode}
 use Rattle.block_format.specs.declared.inode.Inode.TheVariants.{Unused, File, Directory}
 use Rattle.block_tree.specs.Tree.{Blocks, index_at}
-use Rattle.image_model.specs.Met.{Met, index, page, content, past, empty, not_inode, file_of, metas, files, pointers_to, NoFaults}
+use Rattle.image_model.specs.Met.{Met, index, page, content, past, empty, not_inode, stray, meta_of, file_of, metas, files, pointers_to, NoFaults}
 use Rattle.image_model.specs.Findings.{walk_finding, is_in_area}
 use Rattle.image_model.specs.Walk.{met_at, empty_met, empty_at, places_met, leaf_met, tops_met, leaves_met, tree_met, node_met, entries_met, blocks_met, root_met, is_used, is_directory, inodes_from, blocks_inodes, nodes_of, nodes_at, walk}
 use Rattle.image_model.proofs.NodeWalk.{metas_append}
@@ -22,6 +22,8 @@ use Rattle.image_model.proofs.InodeWalk.{inodes_good}
 use Rattle.image_model.proofs.Strays.{none_past, none_stray}
 use Rattle.image_model.proofs.FindingLaws.{WalkFine, walk_fine}
 use Rattle.image_model.proofs.Area.{split_none}
+use Rattle.image_walk.specs.Reads.{is_index, metadata_count}
+use Rattle.image_walk.proofs.ReadsLaws.{metadata_first}
 
 -- how many blocks of files, and of metadata
 abbrev many_files : List Met → ℕ
@@ -223,6 +225,26 @@ few_metas : (g : Layout) (ms : List Met) → WalkFine g [] ms → many_metas ms 
 few_metas g ms fine =
     let all : AllWithin 0 (0 + g.blocks) (metas ms) = within 0 (0 + g.blocks) (metas ms) (λ b among. (omega arith, (let lt = below_blocks g b (fine.of_metas b among) in omega (arith, lt)))) in
     omega (arith, distinct (metas ms) (λ b. omega (arith, fine.once b (omega arith))), different_is 0 g.blocks (metas ms) all, passing_few (is_among (metas ms)) 0 g.blocks)
+
+-- ---- what a walk reads
+
+indexes_few : (ms : List Met) → metadata_count ms ≤ many_metas ms
+indexes_few [] = omega arith
+indexes_few (m ∷ ms) = omega (arith, metadata_first m ms, length-append (meta_of m) (metas ms), by m, indexes_few ms)
+  where
+    by : (m : Met) → cond (is_index m) 1 0 ≤ length (meta_of m)
+    by (index b) = omega arith
+    by (page n place b) = omega arith
+    by (content n place b) = omega arith
+    by (past b) = omega arith
+    by (empty b) = omega arith
+    by (not_inode n) = omega arith
+    by (stray n b) = omega arith
+
+pub few_indexes : (g : Layout) (read : Blocks) (at : ℕ) → walk_finding g [] (walk read at) ≡ None → metadata_count (walk read at) ≤ g.blocks
+few_indexes g read at none =
+    let fine = walk_fine g [] (walk read at) (none_stray read at (none_past g [] (walk read at) none)) none in
+    omega (arith, few_metas g (walk read at) fine, indexes_few (walk read at))
 
 -- ---- all pointers
 

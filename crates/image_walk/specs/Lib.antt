@@ -6,5 +6,6 @@ pub mod Kept
 pub mod Left
 pub mod Marks
 pub mod Order
+pub mod Reads
 pub mod Trees
 pub mod Walked

@@ -1,5 +1,5 @@
 //! The inode index.
-ghost use Rattle.std.specs.Prelude.{◌≡◌, ◌<◌, ◌*◌, ◌∷◌, ℕ, true, OnOk, IfOk, IsTrue, length, slice_index};
+ghost use Rattle.std.specs.Prelude.{◌≡◌, ◌≤◌, ◌<◌, ◌+◌, ◌*◌, ◌∷◌, [], ℕ, true, OnOk, IfOk, IsTrue, length, slice_index};
 ghost use Rattle.vol_numbers.specs.Geometry.{layout_of};
 ghost use Rattle.vol_numbers.specs.Layout.{count_blocks};
 ghost use Rattle.disk_model.specs.Past.{Adds};
@@ -9,6 +9,7 @@ ghost use Rattle.image_model.specs.Met.{index};
 ghost use Rattle.image_model.specs.Walk.{met_at, entries_met};
 ghost use Rattle.image_walk.specs.Cause.{HasWalkCause, IsNoDevice};
 ghost use Rattle.image_walk.specs.Going.{Walks};
+ghost use Rattle.image_walk.specs.Reads.{metadata_count, pointer_count};
 
 use crate::reading::read_pointers;
 use crate::{Marks, WalkFault};
@@ -32,6 +33,7 @@ pub(crate) fn walk_index<D: Disk>(
     ensures same { IsTrue D.tells → D.state disk.new ≡ D.state disk.old }
     ensures moments { IsTrue D.tells → Adds (D.past disk.old) (D.past disk.new) (λ s. s ≡ D.state disk.old) }
     ensures fixed { D.fixed disk.new ≡ D.fixed disk.old }
+    ensures reads { OnOk result ((D.given disk.new).count ≤ (D.given disk.old).count + 1) }
     ensures cause { HasWalkCause (D.faults disk.old) (D.faults disk.new) result }
 {
     marks.meet_metadata(g, at)?;
@@ -62,6 +64,7 @@ pub(crate) fn meet_index(
 ) -> Result<(), WalkFault>
     requires { length marks.old ≡ 1024 * count_blocks (layout_of g.now) }
     ensures walked { Walks (layout_of g.now) marks.old marks.new (met_at index is_below ptr) result }
+    ensures counted { OnOk result (pointer_count (ptr ∷ []) ≤ metadata_count (met_at index is_below ptr)) }
     ensures cause { IsNoDevice result }
     ensures within { OnOk result (IsPointer (layout_of g.now) ptr) }
 {

@@ -13,6 +13,7 @@ ghost use Rattle.image_walk.specs.Cause.{HasWalkCause, IsNoDevice};
 ghost use Rattle.image_walk.specs.Going.{Checks};
 ghost use Rattle.image_walk.specs.Order.{NodesGrow};
 ghost use Rattle.image_walk.specs.Inodes.{block_at, inodes_at};
+ghost use Rattle.image_walk.specs.Reads.{pointer_count};
 
 use crate::WalkFault;
 use crate::area::is_in_area;
@@ -43,6 +44,7 @@ pub(crate) fn walk_inodes<D: Disk>(
     ensures same { IsTrue D.tells → D.state disk.new ≡ D.state disk.old }
     ensures moments { IsTrue D.tells → Adds (D.past disk.old) (D.past disk.new) (λ s. s ≡ D.state disk.old) }
     ensures fixed { D.fixed disk.new ≡ D.fixed disk.old }
+    ensures reads { OnOk result ((D.given disk.new).count ≤ (D.given disk.old).count + pointer_count entries.now) }
     ensures cause { HasWalkCause (D.faults disk.old) (D.faults disk.new) result }
 {
     for k in 0..1_024 {
@@ -68,6 +70,7 @@ fn walk_block<D: Disk>(
     ensures same { IsTrue D.tells → D.state disk.new ≡ D.state disk.old }
     ensures moments { IsTrue D.tells → Adds (D.past disk.old) (D.past disk.new) (λ s. s ≡ D.state disk.old) }
     ensures fixed { D.fixed disk.new ≡ D.fixed disk.old }
+    ensures reads { OnOk result ((D.given disk.new).count ≤ (D.given disk.old).count + pointer_count (at ∷ [])) }
     ensures cause { HasWalkCause (D.faults disk.old) (D.faults disk.new) result }
 {
     if at == 0 {

@@ -6,6 +6,7 @@ mod fault;
 mod index;
 mod inodes;
 mod marks;
+mod metadata;
 mod mixing;
 mod node_block;
 mod reached;
@@ -17,6 +18,7 @@ mod walked;
 
 pub use fault::WalkFault;
 pub use marks::{Mark, Marks};
+pub use metadata::count_metadata;
 pub use mixing::mixed;
 pub use node_block::{NodeBlock, NodeBlockList};
 pub use walked::{NodeList, Walked, walk};

@@ -1,5 +1,5 @@
 //! Reads blocks that were reached.
-ghost use Rattle.std.specs.Prelude.{◌≡◌, IfOk, IsTrue};
+ghost use Rattle.std.specs.Prelude.{◌≡◌, ◌≤◌, ◌+◌, IfOk, OnOk, IsTrue};
 ghost use Rattle.vol_numbers.specs.Geometry.{layout_of};
 ghost use Rattle.disk_model.specs.Past.{Adds};
 ghost use Rattle.block_format.specs.Index.{IsInArea};
@@ -22,6 +22,7 @@ pub(crate) fn read_block<D: Disk>(
     ensures same { IsTrue D.tells → D.state disk.new ≡ D.state disk.old }
     ensures moments { IsTrue D.tells → Adds (D.past disk.old) (D.past disk.new) (λ s. s ≡ D.state disk.old) }
     ensures fixed { D.fixed disk.new ≡ D.fixed disk.old }
+    ensures reads { OnOk result ((D.given disk.new).count ≤ (D.given disk.old).count + 1) }
     ensures cause { HasCause (D.faults disk.old) (D.faults disk.new) result }
 {
     let mut block = Block::zero();
@@ -41,6 +42,7 @@ pub(crate) fn read_pointers<D: Disk>(
     ensures same { IsTrue D.tells → D.state disk.new ≡ D.state disk.old }
     ensures moments { IsTrue D.tells → Adds (D.past disk.old) (D.past disk.new) (λ s. s ≡ D.state disk.old) }
     ensures fixed { D.fixed disk.new ≡ D.fixed disk.old }
+    ensures reads { OnOk result ((D.given disk.new).count ≤ (D.given disk.old).count + 1) }
     ensures cause { HasCause (D.faults disk.old) (D.faults disk.new) result }
 {
     let block = read_block(disk, g, at)?;

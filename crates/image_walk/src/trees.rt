@@ -1,5 +1,5 @@
 //! The blocks of nodes.
-ghost use Rattle.std.specs.Prelude.{◌≡◌, ◌≤◌, ◌<◌, ◌+◌, ◌*◌, ◌==◌, ◌++◌, [], ℕ, List, OnOk, IsTrue, length, slice_index, drop};
+ghost use Rattle.std.specs.Prelude.{◌≡◌, ◌≤◌, ◌<◌, ◌+◌, ◌*◌, ◌==◌, ◌∷◌, ◌++◌, [], ℕ, List, OnOk, IsTrue, length, slice_index, drop};
 ghost use Rattle.std.specs.List.{flat_map, list_all};
 ghost use Rattle.vol_numbers.specs.Geometry.{layout_of};
 ghost use Rattle.vol_numbers.specs.Layout.{Layout, count_blocks};
@@ -12,6 +12,7 @@ ghost use Rattle.image_walk.specs.declared.marks.Mark.{Mark};
 ghost use Rattle.image_walk.specs.Going.{Walks};
 ghost use Rattle.image_walk.specs.Kept.{node_lasts, all_lasts};
 ghost use Rattle.image_walk.specs.Order.{KeepsOf, InOrder};
+ghost use Rattle.image_walk.specs.Reads.{metadata_count, pointer_count};
 ghost use Rattle.image_walk.specs.Trees.{owner_met, place_met, top_met, PassesOver, OwnerPasses};
 
 use crate::index::meet_index;
@@ -39,6 +40,7 @@ pub(crate) fn walk_trees<D: Disk>(
     ensures same { IsTrue D.tells → D.state disk.new ≡ D.state disk.old }
     ensures moments { IsTrue D.tells → Adds (D.past disk.old) (D.past disk.new) (λ s. s ≡ D.state disk.old) }
     ensures fixed { D.fixed disk.new ≡ D.fixed disk.old }
+    ensures reads { OnOk result (IsTrue D.tells → (D.given disk.new).count ≤ (D.given disk.old).count + metadata_count (flat_map (node_met (blocks_in (D.state disk.old).contents)) nodes.now)) }
     ensures cause { HasWalkCause (D.faults disk.old) (D.faults disk.new) result }
 {
     for node in nodes {
@@ -62,6 +64,7 @@ fn walk_node<D: Disk>(
     ensures same { IsTrue D.tells → D.state disk.new ≡ D.state disk.old }
     ensures moments { IsTrue D.tells → Adds (D.past disk.old) (D.past disk.new) (λ s. s ≡ D.state disk.old) }
     ensures fixed { D.fixed disk.new ≡ D.fixed disk.old }
+    ensures reads { OnOk result (IsTrue D.tells → (D.given disk.new).count ≤ (D.given disk.old).count + metadata_count (node_met (blocks_in (D.state disk.old).contents) node.now)) }
     ensures cause { HasWalkCause (D.faults disk.old) (D.faults disk.new) result }
 {
     match node.1 {
@@ -102,6 +105,7 @@ fn walk_tree<D: Disk>(
     ensures same { IsTrue D.tells → D.state disk.new ≡ D.state disk.old }
     ensures moments { IsTrue D.tells → Adds (D.past disk.old) (D.past disk.new) (λ s. s ≡ D.state disk.old) }
     ensures fixed { D.fixed disk.new ≡ D.fixed disk.old }
+    ensures reads { OnOk result (IsTrue D.tells → (D.given disk.new).count ≤ (D.given disk.old).count + metadata_count (tree_met (blocks_in (D.state disk.old).contents) (owner_met owner.now) owner.now.blocks height ptr)) }
     ensures cause { HasWalkCause (D.faults disk.old) (D.faults disk.new) result }
 {
     if height == 0 {
@@ -131,6 +135,7 @@ fn walk_top<D: Disk>(
     ensures same { IsTrue D.tells → D.state disk.new ≡ D.state disk.old }
     ensures moments { IsTrue D.tells → Adds (D.past disk.old) (D.past disk.new) (λ s. s ≡ D.state disk.old) }
     ensures fixed { D.fixed disk.new ≡ D.fixed disk.old }
+    ensures reads { OnOk result (IsTrue D.tells → (D.given disk.new).count ≤ (D.given disk.old).count + (pointer_count (at ∷ []) + metadata_count (top_met (blocks_in (D.state disk.old).contents) owner.now at))) }
     ensures cause { HasWalkCause (D.faults disk.old) (D.faults disk.new) result }
 {
     if at == 0 {
@@ -160,6 +165,7 @@ fn walk_leaves<D: Disk>(
     ensures same { IsTrue D.tells → D.state disk.new ≡ D.state disk.old }
     ensures moments { IsTrue D.tells → Adds (D.past disk.old) (D.past disk.new) (λ s. s ≡ D.state disk.old) }
     ensures fixed { D.fixed disk.new ≡ D.fixed disk.old }
+    ensures reads { OnOk result ((D.given disk.new).count ≤ (D.given disk.old).count + pointer_count tops.now) }
     ensures cause { HasWalkCause (D.faults disk.old) (D.faults disk.new) result }
 {
     for k in 0..1_024 {
@@ -187,6 +193,7 @@ fn walk_leaf<D: Disk>(
     ensures same { IsTrue D.tells → D.state disk.new ≡ D.state disk.old }
     ensures moments { IsTrue D.tells → Adds (D.past disk.old) (D.past disk.new) (λ s. s ≡ D.state disk.old) }
     ensures fixed { D.fixed disk.new ≡ D.fixed disk.old }
+    ensures reads { OnOk result ((D.given disk.new).count ≤ (D.given disk.old).count + pointer_count (at ∷ [])) }
     ensures cause { HasWalkCause (D.faults disk.old) (D.faults disk.new) result }
 {
     if at == 0 {
@@ -224,6 +231,7 @@ fn meet_tops(
     requires many { length tops.now ≡ 1024 }
     requires marks { length marks.old ≡ 1024 * count_blocks (layout_of g.now) }
     ensures walked { Walks (layout_of g.now) marks.old marks.new (tops_met blocks 0 tops.now) result }
+    ensures counted { OnOk result (pointer_count tops.now ≤ metadata_count (tops_met blocks 0 tops.now)) }
     ensures cause { IsNoDevice result }
     ensures within { OnOk result ((k : ℕ) → k < 1024 → IsPointer (layout_of g.now) (slice_index tops.now k)) }
 {

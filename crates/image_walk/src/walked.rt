@@ -1,5 +1,5 @@
 //! The walk as a whole.
-ghost use Rattle.std.specs.Prelude.{◌≡◌, ◌*◌, ◌++◌, [], map, IfOk, IsOk, OnOk, IsTrue, length, replicate, true};
+ghost use Rattle.std.specs.Prelude.{◌≡◌, ◌≤◌, ◌+◌, ◌*◌, ◌++◌, [], map, IfOk, IsOk, OnOk, IsTrue, length, replicate, true};
 ghost use Rattle.vol_numbers.specs.Geometry.{layout_of};
 ghost use Rattle.vol_numbers.specs.Layout.{count_blocks};
 ghost use Rattle.disk_model.specs.Past.{Adds};
@@ -13,6 +13,7 @@ ghost use Rattle.image_walk.specs.Left.{AreWithin, HasOwners, HaveWidths, OfSeen
 ghost use Rattle.image_walk.specs.Order.{InOrder, NodesRise};
 ghost use Rattle.place_words.specs.Rising.{Rising};
 ghost use Rattle.image_walk.specs.Marks.{Says, no_mark};
+ghost use Rattle.image_walk.specs.Reads.{metadata_count};
 ghost use Rattle.image_walk.specs.Trees.{PassesOver};
 ghost use Rattle.image_walk.specs.Walked.{IsFinding};
 
@@ -68,6 +69,9 @@ pub fn walk<D: Disk>(
     ensures pages { IfOk result (λ w. IsTrue D.tells → OfSeen (blocks_in (D.state disk.old).contents) at (λ s. s.pages ≡ blocks_held (blocks_in (D.state disk.old).contents) w.pages)) }
     ensures owners { IsOk result → IsTrue D.tells → OfSeen (blocks_in (D.state disk.old).contents) at HasOwners }
     ensures ends { IfOk result (λ w. IsTrue D.tells → OfSeen (blocks_in (D.state disk.old).contents) at (SeesEnds (blocks_in (D.state disk.old).contents) w.lasts)) }
+    // Where the disk tells: no more reads than blocks of metadata that are met, but for those of directories.
+    ensures reads { OnOk result (IsTrue D.tells → (D.given disk.new).count ≤ (D.given disk.old).count + metadata_count (walk (blocks_in (D.state disk.old).contents) at)) }
+    ensures few { OnOk result (IsTrue D.tells → metadata_count (walk (blocks_in (D.state disk.old).contents) at) ≤ (layout_of g.now).blocks) }
 
     // On every disk nodes and blocks come by number, sizes and widths are within their limits, number 1 is a directory, and blocks are on the disk.
     ensures numbers { IfOk result (λ w. Rising 1 (map (λ node. node.0) w.nodes)) }
@@ -139,6 +143,7 @@ fn walk_parts<D: Disk>(
     ensures same { IsTrue D.tells → D.state disk.new ≡ D.state disk.old }
     ensures moments { IsTrue D.tells → Adds (D.past disk.old) (D.past disk.new) (λ s. s ≡ D.state disk.old) }
     ensures fixed { D.fixed disk.new ≡ D.fixed disk.old }
+    ensures reads { OnOk result (IsTrue D.tells → (D.given disk.new).count ≤ (D.given disk.old).count + metadata_count (walk (blocks_in (D.state disk.old).contents) at)) }
     ensures cause { HasWalkCause (D.faults disk.old) (D.faults disk.new) result }
 {
     let entries = walk_index(disk, g, at, &mut walking.reached.marks)?;

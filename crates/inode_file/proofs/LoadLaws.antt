@@ -8,10 +8,6 @@ use Rattle.std.proofs.lemmas.Bool.Decides.{nat_tests}
 use Rattle.place_words.specs.Different.{is_among}
 use Rattle.vol_numbers.specs.Layout.{Layout}
 use Rattle.disk_model.specs.Disk.{Given}
-use Rattle.std.specs.Prelude.{All}
-use Rattle.block_format.specs.Words.{words}
-use Rattle.block_format.specs.Counts.{SpellsCounts}
-use Rattle.block_format.specs.Index.{SpellsIndex, IsPointer}
 use Rattle.block_format.specs.declared.inode.Inode.{Inode}
 use Rattle.block_tree.specs.Tree.{Blocks}
 use Rattle.block_tree.specs.declared.fault.TreeFault.{TreeFault}
@@ -66,11 +62,3 @@ blocks_more P inodes block k long full before is j lt = ⊎_elim
     (λ (e : j ≡ k). subst (λ (i : ℕ). P i (block_of (inodes ++ block) i)) (sym e) (subst (λ (b : List Inode). P k b) (sym (last_block inodes block k long full)) is))
     (λ (ne : j ≡ k → ⊥). subst (λ (b : List Inode). P j b) (sym (earlier_block inodes block j k (omega (arith, lt, ne)) long)) (before j (omega (arith, lt, ne))))
     (cases_eq j k)
-
--- numbers of a block that are pointers are an index
-pub index_of_counts : (g : Layout) (bytes : List ℕ) → SpellsCounts (words bytes) bytes → All (IsPointer g) (take 1024 (words bytes)) → SpellsIndex g (words bytes) bytes
-index_of_counts g bytes counts all = record {
-  count = counts.count;
-  each = subst (λ (ps : List ℕ). All (IsPointer g) ps) (take_all 1024 (words bytes) (omega (arith, counts.count))) all;
-  spelled = counts.spelled;
-}

@@ -2,6 +2,7 @@
 #![tactic(auto)]
 
 mod inode_block;
+mod known;
 mod laws;
 mod loading;
 mod notes;
@@ -9,5 +10,6 @@ mod renewal;
 mod table;
 mod taken;
 
+pub use known::is_whole;
 pub use laws::{not_damaged, number_spelled, one_table, table_stays, tree_of_table};
 pub use table::InodeFile;

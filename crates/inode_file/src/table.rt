@@ -89,7 +89,7 @@ impl InodeFile {
     }
 
     /// These inodes, which stand in the blocks to which these pointers lead.
-    fn of(
+    pub(crate) fn of(
         alloc: Global,
         inodes: Vec<Inode>,
         pointers: Index,

@@ -1,6 +1,6 @@
 -- What is known of a result, by its cases.
 use Rattle.std.proofs.Common.{◌≡◌, ℕ, sym, subst}
-use Rattle.std.specs.Prelude.{Result, Ok, Err, IfOk}
+use Rattle.std.specs.Prelude.{Result, Ok, Err, Option, Some, IfOk, IfNone}
 use Rattle.log_check.specs.Cause.{IfFound, HasCheckCause}
 use Rattle.log_check.specs.declared.fault.LogCheckFault.{LogCheckFault}
 use Rattle.log_check.specs.declared.fault.LogCheckFault.TheVariants.{Found, Device, OutOfMemory}
@@ -24,6 +24,17 @@ pub cause_same : (S T : Type 0) (fault : LogCheckFault) (count : ℕ) → HasChe
 cause_same S T (Found i) count cause = cause
 cause_same S T Device count cause = cause
 cause_same S T OutOfMemory count cause = cause
+
+-- what is known anyway
+pub found_known : {T : Type 0} (r : Result T LogCheckFault) (W : Type 0) → W → IfFound r (λ _. W)
+found_known (Ok value) W w = tt
+found_known (Err (Found i)) W w = w
+found_known (Err Device) W w = tt
+found_known (Err OutOfMemory) W w = tt
+
+-- where there is a value nothing is asked of there being none
+pub some_not_none : {X : Type 0} (o : Option X) (x : X) (P : Type 0) → o ≡ Some x → IfNone o P
+some_not_none o x P is = subst (λ (v : Option _). IfNone v P) (sym is) tt
 
 -- what is known of the value that is answered
 pub ok_is : {T E : Type 0} (r : Result T E) (x : T) (W : Type 0) (P : T → Type 0) → IfOk r (λ _. W) → IfOk r (λ y. y ≡ x) → (W → P x) → IfOk r P

@@ -1,5 +1,5 @@
 //! Checks the log of a volume whose other phases found nothing.
-ghost use Rattle.std.specs.Prelude.{◌≡◌, ◌<◌, ◌^◌, ℕ, All, IfOk, IsTrue};
+ghost use Rattle.std.specs.Prelude.{◌≡◌, ◌<◌, ◌≤◌, ◌+◌, ◌*◌, ◌^◌, ℕ, All, IfOk, IsTrue};
 ghost use Rattle.disk_model.specs.Past.{Adds};
 ghost use Rattle.block_format.specs.Root.{root_of, HasGeometry};
 ghost use Rattle.root_switch.specs.Current.{root_of_image};
@@ -50,6 +50,10 @@ pub fn check_log<D: Disk>(
     ensures takes { IfOk result (λ records. TakesEach free nodes.old records nodes.new) }
     ensures have_records { IfOk result (All HasRecord) }
     ensures still { HoldsATree nodes.new }
+
+    // Each used block of the log is read once, and where a record is bad none is read more than twice.
+    ensures reads { IfOk result (λ records. (D.given disk.new).count ≤ (D.given disk.old).count + body.now.log_used) }
+    ensures reads_again { IfFound result (λ _. (D.given disk.new).count ≤ (D.given disk.old).count + 2 * body.now.log_used) }
 
     ensures same { IsTrue D.tells → D.state disk.new ≡ D.state disk.old }
     ensures moments { IsTrue D.tells → Adds (D.past disk.old) (D.past disk.new) (λ s. s ≡ D.state disk.old) }

@@ -1,5 +1,5 @@
 //! Reads the records of a log up to the first bad one.
-ghost use Rattle.std.specs.Prelude.{◌≡◌, ◌<◌, IfOk, IsTrue};
+ghost use Rattle.std.specs.Prelude.{◌≡◌, ◌<◌, ◌≤◌, ◌+◌, ◌*◌, IfOk, IfNone, IsTrue, Some};
 ghost use Rattle.vol_numbers.specs.Layout.{log_start};
 ghost use Rattle.disk_model.specs.Past.{Adds};
 ghost use Rattle.block_format.specs.Root.{root_of, HasGeometry};
@@ -30,6 +30,9 @@ pub(crate) fn read_front<D: Disk>(
     requires size { (root_of body.now).layout.blocks ≡ (D.fixed disk.old).size }
     ensures front { IfOk result (ReadsFront D.tells (D.state disk.old).contents body.now) }
     ensures found { IfFound result (λ _. IsTrue D.tells → ⊥) }
+    ensures reads { IfOk result (λ front. IfNone front.bad ((D.given disk.new).count ≤ (D.given disk.old).count + body.now.log_used)) }
+    ensures reads_again { IfOk result (λ front. (D.given disk.new).count ≤ (D.given disk.old).count + 2 * body.now.log_used) }
+    ensures reads_found { IfFound result (λ _. (D.given disk.new).count ≤ (D.given disk.old).count + 2 * body.now.log_used) }
     ensures same { IsTrue D.tells → D.state disk.new ≡ D.state disk.old }
     ensures moments { IsTrue D.tells → Adds (D.past disk.old) (D.past disk.new) (λ s. s ≡ D.state disk.old) }
     ensures fixed { D.fixed disk.new ≡ D.fixed disk.old }
@@ -59,6 +62,9 @@ fn read_before<D: Disk>(
     requires first_bad { IsTrue D.tells → IsFirstBad (D.state disk.old).contents (log_start (root_of body.now).layout) body.now.log_used bad }
     ensures front { IfOk result (ReadsFront D.tells (D.state disk.old).contents body.now) }
     ensures found { IfFound result (λ _. IsTrue D.tells → ⊥) }
+    ensures bad { IfOk result (λ front. front.bad ≡ Some bad) }
+    ensures reads { IfOk result (λ front. (D.given disk.new).count ≤ (D.given disk.old).count + body.now.log_used) }
+    ensures reads_found { IfFound result (λ _. (D.given disk.new).count ≤ (D.given disk.old).count + body.now.log_used) }
     ensures same { IsTrue D.tells → D.state disk.new ≡ D.state disk.old }
     ensures moments { IsTrue D.tells → Adds (D.past disk.old) (D.past disk.new) (λ s. s ≡ D.state disk.old) }
     ensures fixed { D.fixed disk.new ≡ D.fixed disk.old }

@@ -1,5 +1,5 @@
 -- What a volume answers, by cases on the command.
-use Rattle.std.proofs.Common.{◌≡◌, ◌∙◌, ⊎_elim, inl, ℕ, ◌+◌, ◌≤◌, ◌<◌, Bool, true, false, List, [], ◌∷◌, length, Option, Some, None, Result, Ok, Err, refl, sym, ap, subst, arith}
+use Rattle.std.proofs.Common.{◌≡◌, ◌∙◌, ⊎_elim, inl, ℕ, Bool, true, false, List, [], ◌∷◌, length, Option, Some, None, Result, Ok, Err, refl, sym, ap, subst, arith}
 use Rattle.std.specs.Prelude.{IfOk, OnOk, OnErr, ◌||◌, not, is_some, is_err}
 use Rattle.std.specs.Result.{result_err}
 use Rattle.vol_numbers.specs.declared.block.Block.{Block}
@@ -20,8 +20,8 @@ use Rattle.tree_model.specs.Step.{step, refusal_of, or_refuse, refuse_if, walk, 
 use Rattle.tree_model.proofs.AttemptLaws.{reading_leaves}
 use Rattle.tree_model.proofs.RefusalLaws.{refusal_tells, changes_are_done}
 use Rattle.tree_model.proofs.RenameLaws.{keeps_trees}
-use Rattle.op_log.specs.Record.{IsLogged, record_blocks}
-use Rattle.log_volume.specs.Answers.{Legal, reply_to, with_room, has_room, accepted, unbuilt_reply}
+use Rattle.op_log.specs.Record.{IsLogged}
+use Rattle.log_volume.specs.Answers.{Legal, reply_to, with_room, has_room, accepted}
 use Rattle.log_volume.specs.Fits.{StandsForSome}
 use Rattle.log_volume.specs.Image.{Stands}
 use Rattle.log_volume.specs.Logging.{KeepsOrNext}

@@ -11,8 +11,8 @@ use Rattle.tree_model.specs.declared.command.Command.{Command}
 use Rattle.op_log.specs.Log.{HoldsRecords, blocks_of}
 use Rattle.op_log.specs.Record.{record_blocks}
 use Rattle.op_log.proofs.LogLemmas.{one_log, used_blocks_tell, one_record_more}
-use Rattle.log_volume.specs.Blocks.{count_block, index_block, inode_block}
-use Rattle.log_volume.specs.Image.{Stands, Logs, LogHolds, IsBuilt, IsLive, counts, inodes, index, logged, KeepsLive, HasNext, layout_in, used_in}
+use Rattle.volume_format.specs.Blocks.{count_block, index_block, inode_block}
+use Rattle.log_volume.specs.Image.{Stands, LogHolds, IsBuilt, IsLive, counts, inodes, index, logged, KeepsLive, HasNext, layout_in, used_in}
 use Rattle.log_volume.specs.Laws.{OpensNoLive, OneMeaning}
 use Rattle.log_volume.specs.Replay.{Kept, nothing_kept, and_command, after, IsDone, DoesEach}
 

@@ -1,6 +1,4 @@
-pub mod BlockLemmas
 pub mod FindingLemmas
-pub mod FormatLemmas
 pub mod FreshLemmas
 pub mod ImageLaws
 pub mod LoggingLemmas

@@ -1,6 +1,6 @@
 -- What the images hold while a record is written and a root that counts it is switched to.
-use Rattle.std.proofs.Common.{◌≡◌, ◌∙◌, ⊎_elim, inl, inr, ◌+◌, ◌-◌, ◌%◌, ◌<◌, ◌≤◌, ℕ, false, List, length, Option, sym, ap, subst, arith}
-use Rattle.std.specs.Prelude.{slice_get, slice_index, option_map, unwrap_or}
+use Rattle.std.proofs.Common.{◌≡◌, ◌∙◌, ⊎_elim, inl, inr, ◌+◌, ◌<◌, ◌≤◌, ℕ, false, List, length, Option, sym, ap, subst, arith}
+use Rattle.std.specs.Prelude.{slice_get, unwrap_or}
 use Rattle.vol_numbers.specs.Block.{zero_block}
 use Rattle.vol_numbers.specs.Layout.{Layout, IsValid, log_start}
 use Rattle.vol_numbers.specs.declared.block.Block.{Block}
@@ -8,7 +8,7 @@ use Rattle.disk_model.specs.Disk.{State, IsImage, EachImage, is_among}
 use Rattle.block_format.specs.declared.root.RootBody.{RootBody}
 use Rattle.block_format.specs.Root.{Root, root_of, root_in, root_bytes, HasGeometry}
 use Rattle.root_switch.specs.Current.{root_of_image}
-use Rattle.root_switch.specs.Switch.{IsCurrent, HasOldRoot, HasNewRoot, OldOrNew, IsSwitched}
+use Rattle.root_switch.specs.Switch.{HasOldRoot, HasNewRoot, OldOrNew, IsSwitched}
 use Rattle.root_switch.proofs.SwitchLemmas.{same_root}
 use Rattle.tree_model.specs.declared.command.Command.{Command}
 use Rattle.op_log.specs.Append.{IsOutside, ChangesWithin}

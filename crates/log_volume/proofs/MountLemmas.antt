@@ -5,7 +5,7 @@ use Rattle.vol_numbers.specs.Layout.{Layout, area_start}
 use Rattle.vol_numbers.specs.declared.block.Block.{Block}
 use Rattle.block_format.specs.Root.{Root}
 use Rattle.root_switch.specs.Current.{root_of_image}
-use Rattle.log_volume.specs.Blocks.{index_block, inode_block}
+use Rattle.volume_format.specs.Blocks.{index_block, inode_block}
 use Rattle.log_volume.specs.Image.{IsBuilt, layout_in}
 use Rattle.log_volume.specs.Mounting.{HasFreshFields, HasCounts, HasInodes}
 

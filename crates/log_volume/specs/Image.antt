@@ -6,7 +6,7 @@ use Rattle.root_switch.specs.Current.{current_root, root_of_image, HasRoot, Fits
 use Rattle.tree_model.specs.declared.command.Command.{Command}
 use Rattle.op_log.specs.Log.{HoldsRecords, RecordStands, blocks_of}
 use Rattle.op_log.specs.Record.{HasRecord, record_blocks}
-use Rattle.log_volume.specs.Blocks.{count_block, index_block, inode_block}
+use Rattle.volume_format.specs.Blocks.{count_block, index_block, inode_block}
 use Rattle.log_volume.specs.Replay.{Kept, nothing_kept, after, DoesEach}
 
 abbrev pub layout_in : List Block → Layout

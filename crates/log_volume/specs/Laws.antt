@@ -7,7 +7,7 @@ use Rattle.root_switch.specs.Current.{current_slot}
 use Rattle.tree_model.specs.declared.command.Command.{Command}
 use Rattle.log_volume.specs.declared.finding.Finding.{Finding}
 use Rattle.log_volume.specs.Finding.{Finds}
-use Rattle.log_volume.specs.Fresh.{IsFresh}
+use Rattle.volume_format.specs.Fresh.{IsFresh}
 use Rattle.log_volume.specs.Image.{Stands, IsLive, KeepsLive, HasNext}
 use Rattle.log_volume.specs.Replay.{Kept, nothing_kept, and_command, IsDone}
 

@@ -1,9 +1,6 @@
 pub mod Answers
-pub mod Blocks
 pub mod Finding
 pub mod Fits
-pub mod Formatting
-pub mod Fresh
 pub mod Image
 pub mod Laws
 pub mod Logging

@@ -6,7 +6,7 @@ use Rattle.vol_numbers.specs.declared.block.Block.{Block}
 use Rattle.block_format.specs.Root.{Root, root_of}
 use Rattle.root_switch.specs.Current.{current_slot, root_of_image, HasRoot, FitsImage}
 use Rattle.root_switch.specs.declared.reading.Current.{Current}
-use Rattle.log_volume.specs.Blocks.{count_block, index_block, inode_block}
+use Rattle.volume_format.specs.Blocks.{count_block, index_block, inode_block}
 use Rattle.log_volume.specs.Finding.{HasBadLog}
 use Rattle.log_volume.specs.Image.{IsBuilt}
 use Rattle.log_volume.specs.declared.finding.Finding.{Finding}

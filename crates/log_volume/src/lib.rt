@@ -3,8 +3,6 @@
 
 mod answer;
 mod finding;
-mod formatting;
-mod fresh;
 mod logging;
 mod meaning;
 mod mounting;
@@ -13,9 +11,9 @@ mod volume;
 
 pub use answer::{Answer, Stopped};
 pub use finding::Finding;
-pub use formatting::format;
 pub use meaning::{
     found_stands_for_nothing, fresh_stands, images_stand, kept_meaning, next_stands, one_meaning,
 };
 pub use mounting::{MountFault, mount};
 pub use volume::LogVolume;
+pub use volume_format::format;

@@ -11,7 +11,6 @@ ghost use Rattle.log_volume.specs.Fits.{Fits};
 ghost use Rattle.log_volume.specs.Image.{IsBuilt};
 ghost use Rattle.log_volume.specs.Mounting.{OnFound, HasMountCause, HasFreshFields, HasCounts, HasInodes, HasBuilt};
 
-use crate::fresh::{count_block, index_block, inode_block};
 use crate::replaying::read_tree;
 use crate::{Finding, LogVolume};
 use block_format::{HomeBits, RootBody};
@@ -20,6 +19,7 @@ use root_switch::{Current, RootFault, read_current};
 use std::alloc::Global;
 use thiserror::Error;
 use vol_numbers::{Block, BlockNo, Geometry};
+use volume_format::{count_block, index_block, inode_block};
 
 /// Why no volume was mounted.
 #[derive(Clone, Copy, Debug, PartialEq, Eq, Error)]

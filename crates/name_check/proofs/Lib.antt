@@ -2,6 +2,7 @@ pub mod RunLaws
 pub mod FirstLaws
 pub mod SlotLaws
 pub mod ReadLaws
+pub mod OnceLaws
 pub mod BadLaws
 pub mod HeldLaws
 pub mod NamingLaws

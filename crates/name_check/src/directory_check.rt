@@ -1,9 +1,10 @@
 //! Faults of directories.
-ghost use Rattle.std.specs.Prelude.{◌≡◌, ◌<◌, ◌≤◌, ◌++◌, ℕ, [], ◌∷◌, map, length, None, Some, IfOk, IfErr, OnOk, IsTrue};
+ghost use Rattle.std.specs.Prelude.{◌≡◌, ◌<◌, ◌≤◌, ◌+◌, ◌++◌, ℕ, [], ◌∷◌, map, length, None, Some, IfOk, IfErr, OnOk, IsTrue};
 ghost use Rattle.disk_model.specs.Past.{Adds};
 ghost use Rattle.block_format.specs.declared.inode.Inode.{Inode};
 ghost use Rattle.block_tree.specs.Tree.{blocks_in};
 ghost use Rattle.dir_slots.specs.Pages.{SpellsDirectory, pages_for};
+ghost use Rattle.place_words.specs.Different.{times};
 ghost use Rattle.place_words.specs.Rising.{Rising};
 ghost use Rattle.image_model.specs.Nodes.{directory_finding};
 ghost use Rattle.image_model.specs.Seen.{Seen};
@@ -45,6 +46,7 @@ pub fn directories<D: Disk>(
     ensures numbers { IfOk result (λ held. map (λ h. h.number) held ≡ directory_numbers nodes.now) }
     ensures widths { IfOk result (λ held. HaveSlots nodes.now held) }
     ensures found { IfErr result (λ fault. IsTrue D.tells → (s : Seen) → s.nodes ≡ nodes.now → s.pages ≡ blocks_held (blocks_in (D.state disk.old).contents) pages.now → FindsInNodes s fault) }
+    ensures reads { OnOk result ((D.given disk.new).count ≤ (D.given disk.old).count + length pages.now) }
     ensures same { IsTrue D.tells → D.state disk.new ≡ D.state disk.old }
     ensures moments { IsTrue D.tells → Adds (D.past disk.old) (D.past disk.new) (λ s. s ≡ D.state disk.old) }
     ensures fixed { D.fixed disk.new ≡ D.fixed disk.old }
@@ -74,6 +76,7 @@ fn read_directory<D: Disk>(
     ensures read { IfOk result (λ slots. IsTrue D.tells → IsRead (blocks_in (D.state disk.old).contents) pages.now number width slots) }
     ensures wide { IfOk result (λ slots. length slots ≡ width) }
     ensures bad { IfErr result (λ fault. IsTrue D.tells → FindsBad (blocks_in (D.state disk.old).contents) pages.now number width fault) }
+    ensures reads { OnOk result ((D.given disk.new).count ≤ (D.given disk.old).count + times number (map (λ b. b.number) pages.now)) }
     ensures same { IsTrue D.tells → D.state disk.new ≡ D.state disk.old }
     ensures moments { IsTrue D.tells → Adds (D.past disk.old) (D.past disk.new) (λ s. s ≡ D.state disk.old) }
     ensures fixed { D.fixed disk.new ≡ D.fixed disk.old }

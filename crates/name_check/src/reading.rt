@@ -1,5 +1,5 @@
 //! Reads blocks that are on the disk.
-ghost use Rattle.std.specs.Prelude.{◌≡◌, ◌<◌, IfOk, ◌++◌, ◌∷◌, [], IfErr, OnOk, IsTrue, length};
+ghost use Rattle.std.specs.Prelude.{◌≡◌, ◌≤◌, ◌<◌, ◌+◌, IfOk, ◌++◌, ◌∷◌, [], IfErr, OnOk, IsTrue, length};
 ghost use Rattle.vol_numbers.specs.Cause.{HasCause};
 ghost use Rattle.disk_model.specs.Past.{Adds};
 ghost use Rattle.block_tree.specs.Tree.{blocks_in};
@@ -17,6 +17,7 @@ use vol_numbers::{Block, BlockNo, Page, PageList};
 pub(crate) fn read_block<D: Disk>(disk: &mut D, at: BlockNo) -> Result<Block, DiskFault>
     requires { at < (D.fixed disk.old).size }
     ensures bytes { IfOk result (λ block. IsTrue D.tells → blocks_in (D.state disk.old).contents at ≡ block.bytes) }
+    ensures reads { OnOk result ((D.given disk.new).count ≤ (D.given disk.old).count + 1) }
     ensures same { IsTrue D.tells → D.state disk.new ≡ D.state disk.old }
     ensures moments { IsTrue D.tells → Adds (D.past disk.old) (D.past disk.new) (λ s. s ≡ D.state disk.old) }
     ensures fixed { D.fixed disk.new ≡ D.fixed disk.old }
@@ -37,6 +38,7 @@ pub(crate) fn read_pages<D: Disk>(
     ensures count { IfOk result (λ pages. length pages ≡ length own.now) }
     ensures bytes { IfOk result (λ pages. IsTrue D.tells → HaveBytes (blocks_in (D.state disk.old).contents) own.now pages) }
     ensures no_finding { IfErr result (λ fault. IsNoFinding fault) }
+    ensures reads { OnOk result ((D.given disk.new).count ≤ (D.given disk.old).count + length own.now) }
     ensures same { IsTrue D.tells → D.state disk.new ≡ D.state disk.old }
     ensures moments { IsTrue D.tells → Adds (D.past disk.old) (D.past disk.new) (λ s. s ≡ D.state disk.old) }
     ensures fixed { D.fixed disk.new ≡ D.fixed disk.old }

@@ -1,5 +1,5 @@
 //! Bytes behind the size of a file.
-ghost use Rattle.std.specs.Prelude.{◌≡◌, ◌<◌, ◌≤◌, length, ◌==◌, ◌-◌, ◌*◌, ℕ, Some, not, map, take, drop, IfOk, IsTrue, option_map};
+ghost use Rattle.std.specs.Prelude.{◌≡◌, ◌<◌, ◌≤◌, length, ◌==◌, ◌+◌, ◌-◌, ◌*◌, ◌∷◌, [], ℕ, Some, not, map, take, drop, IfOk, OnOk, IsTrue, option_map};
 ghost use Rattle.std.specs.List.{list_all};
 ghost use Rattle.vol_numbers.specs.Cause.{HasCause};
 ghost use Rattle.disk_model.specs.Past.{Adds};
@@ -10,6 +10,7 @@ ghost use Rattle.image_model.specs.Seen.{Seen};
 ghost use Rattle.image_model.specs.declared.finding.Finding.TheVariants.{BadTail};
 ghost use Rattle.image_walk.specs.Blocks.{NeverFall, AreOnDisk};
 ghost use Rattle.image_walk.specs.Left.{SeesEnds};
+ghost use Rattle.image_walk.specs.Reads.{file_count};
 ghost use Rattle.name_check.specs.Tails.{has_tail_in, node_has_tail};
 
 use crate::blocks::block_at;
@@ -29,6 +30,7 @@ pub fn tails<D: Disk>(
     requires size { AreOnDisk (D.fixed disk.old).size last_blocks.now }
     ensures found { IfOk result (λ found. IsTrue D.tells → (s : Seen) → s.nodes ≡ nodes.now → SeesEnds (blocks_in (D.state disk.old).contents) last_blocks.now s
         → option_map (λ n. BadTail n) found ≡ tail_finding s) }
+    ensures reads { OnOk result ((D.given disk.new).count ≤ (D.given disk.old).count + file_count nodes.now) }
     ensures same { IsTrue D.tells → D.state disk.new ≡ D.state disk.old }
     ensures moments { IsTrue D.tells → Adds (D.past disk.old) (D.past disk.new) (λ s. s ≡ D.state disk.old) }
     ensures fixed { D.fixed disk.new ≡ D.fixed disk.old }
@@ -51,6 +53,7 @@ fn is_bad<D: Disk>(
     requires order { NeverFall last_blocks.now }
     requires size { AreOnDisk (D.fixed disk.old).size last_blocks.now }
     ensures has { IfOk result (λ has. IsTrue D.tells → has ≡ node_has_tail (blocks_in (D.state disk.old).contents) last_blocks.now node.now) }
+    ensures reads { OnOk result ((D.given disk.new).count ≤ (D.given disk.old).count + file_count (node.now ∷ [])) }
     ensures same { IsTrue D.tells → D.state disk.new ≡ D.state disk.old }
     ensures moments { IsTrue D.tells → Adds (D.past disk.old) (D.past disk.new) (λ s. s ≡ D.state disk.old) }
     ensures fixed { D.fixed disk.new ≡ D.fixed disk.old }
@@ -72,6 +75,7 @@ fn has_tail<D: Disk>(
     requires order { NeverFall last_blocks.now }
     requires size { AreOnDisk (D.fixed disk.old).size last_blocks.now }
     ensures has { IfOk result (λ has. IsTrue D.tells → has ≡ has_tail_in (blocks_in (D.state disk.old).contents) last_blocks.now number size) }
+    ensures reads { OnOk result ((D.given disk.new).count ≤ (D.given disk.old).count + 1) }
     ensures same { IsTrue D.tells → D.state disk.new ≡ D.state disk.old }
     ensures moments { IsTrue D.tells → Adds (D.past disk.old) (D.past disk.new) (λ s. s ≡ D.state disk.old) }
     ensures fixed { D.fixed disk.new ≡ D.fixed disk.old }
@@ -89,6 +93,7 @@ fn has_bytes<D: Disk>(disk: &mut D, block: BlockNo, from: usize) -> Result<bool,
     requires block { block < (D.fixed disk.old).size }
     requires from { from ≤ 4096 }
     ensures has { IfOk result (λ has. IsTrue D.tells → has ≡ not (list_all (λ b. b == 0) (drop from (take 4096 (blocks_in (D.state disk.old).contents block))))) }
+    ensures reads { OnOk result ((D.given disk.new).count ≤ (D.given disk.old).count + 1) }
     ensures same { IsTrue D.tells → D.state disk.new ≡ D.state disk.old }
     ensures moments { IsTrue D.tells → Adds (D.past disk.old) (D.past disk.new) (λ s. s ≡ D.state disk.old) }
     ensures fixed { D.fixed disk.new ≡ D.fixed disk.old }

@@ -1,12 +1,11 @@
 -- What is known of a number where a point is taken.
-use Rattle.std.proofs.Common.{◌≡◌, ℕ, zero, suc, ◌+◌, ◌-◌, ◌*◌, ◌/◌, ◌<◌, ◌≤◌, Bool, true, false, cond, List, [], ◌∷◌, length, take, Some, None, inl, inr, refl, sym, ap, subst, ◌∙◌, arith}
-use Rattle.std.specs.Prelude.{◌==◌, ◌||◌, ◌⊎◌, nat_le, max, option_map, Option}
+use Rattle.std.proofs.Common.{◌≡◌, ℕ, ◌+◌, ◌-◌, ◌/◌, ◌<◌, ◌≤◌, Bool, true, false, cond, List, [], length, take, Some, None, inl, inr, refl, sym, ap, subst, ◌∙◌, arith}
+use Rattle.std.specs.Prelude.{◌==◌, ◌||◌, ◌⊎◌, nat_le, option_map, Option}
 use Rattle.std.specs.FinMap.{find}
-use Rattle.std.proofs.lemmas.Bool.{eqb-true}
 use Rattle.std.proofs.lemmas.Bool.Decides.{nat_tests}
 use Rattle.vol_numbers.specs.declared.block.Block.{Block}
 use Rattle.vol_numbers.specs.declared.runs.Page.{Page}
-use Rattle.block_format.specs.Inode.{blocks_of, pointer_of}
+use Rattle.block_format.specs.Inode.{blocks_of}
 use Rattle.block_format.specs.declared.inode.Inode.{Inode}
 use Rattle.block_format.specs.declared.inode.Inode.TheVariants.{Unused, File, Directory}
 use Rattle.block_format.specs.declared.slot.Slot.{Slot}
@@ -14,10 +13,9 @@ use Rattle.block_tree.specs.Notes.{Stand}
 use Rattle.block_tree.specs.Root.{Stays}
 use Rattle.block_tree.specs.Tree.{blocks_in}
 use Rattle.dir_slots.specs.Pages.{pages_for}
-use Rattle.dirty_store.specs.Overlay.{Overlay, node_of, least_cut, width_of}
+use Rattle.dirty_store.specs.Overlay.{Overlay, node_of, least_cut}
 use Rattle.image_model.specs.Holds.{HoldsTree}
 use Rattle.image_model.specs.Met.{NoFaults}
-use Rattle.image_model.specs.Planned.{height_in}
 use Rattle.image_model.specs.Reading.{HasDirectory}
 use Rattle.image_model.specs.Seen.{seen}
 use Rattle.image_model.specs.Slots.{slots_of as slots_seen}
@@ -28,7 +26,7 @@ use Rattle.image_model.proofs.Area.{no_faults as none_found}
 use Rattle.image_model.proofs.DirectoryRead.{directories_stand}
 use Rattle.image_model.proofs.FileLaws.{places_are_seen}
 use Rattle.image_model.proofs.HeldLaws.{tree_is_held}
-use Rattle.node_table.specs.Held.{info, info_of}
+use Rattle.node_table.specs.Held.{info}
 use Rattle.node_table.specs.declared.held.NodeInfo.TheVariants as infos
 use Rattle.point_model.specs.Holding.{inode_before, inode_now, node_now, staged_or, slots_left, slots_now, kind_of, width_in, is_changed, as_node}
 use Rattle.point_model.specs.NodePlan.{block_of_place}
@@ -41,11 +39,10 @@ use Rattle.tree_model.specs.Tree.{node_at}
 use Rattle.tree_model.specs.declared.node.Content.TheVariants as content
 use Rattle.tree_model.specs.declared.node.Node.{Node}
 use Rattle.volume_model.specs.Machine.{Machine, Rules, Stored, stored}
-use Rattle.volume_model.specs.Places.{Spot, spot_cmp, has_spot, spots_of}
-use Rattle.node_plan.specs.Directories.{HoldsDirectory}
+use Rattle.volume_model.specs.Places.{spot_cmp, has_spot, spots_of}
+use Rattle.tree_plan.specs.Directories.{HoldsDirectory}
 use Rattle.node_plan.specs.Nodes.{IsAtPoint, left_after}
-use Rattle.node_plan.specs.Pages.{width_with}
-use Rattle.node_plan.specs.Trees.{root_of, IsFullTree, EndsAt, Carries}
+use Rattle.tree_plan.specs.Trees.{root_of, IsFullTree, EndsAt, Carries}
 use Rattle.node_plan.proofs.HoldsLaws.{directory_holds}
 use Rattle.node_plan.proofs.LiveTrees.{tree_full, tree_stays}
 

@@ -18,8 +18,8 @@ use Rattle.point_model.specs.NodePlan.{node_metas}
 use Rattle.point_model.specs.PointPlan.{LiveStays}
 use Rattle.volume_model.specs.Machine.{Machine, Rules, stored}
 use Rattle.node_plan.specs.Nodes.{IsAtPoint, IsTreePlanned}
-use Rattle.node_plan.specs.Trees.{root_of, HasTopIndex}
-use Rattle.node_plan.specs.declared.plan.TreePlan.{TreePlan}
+use Rattle.tree_plan.specs.Trees.{root_of, HasTopIndex}
+use Rattle.tree_plan.specs.declared.plan.TreePlan.{TreePlan}
 use Rattle.node_plan.proofs.AtPoint.{carries}
 use Rattle.node_plan.proofs.MetaCounts.{metas_before, top_count}
 

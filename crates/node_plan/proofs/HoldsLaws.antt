@@ -21,8 +21,8 @@ use Rattle.point_model.specs.NodePlan.{block_of_place}
 use Rattle.point_model.specs.OldPages.{DirectoriesStand, PagesStand}
 use Rattle.volume_model.specs.Machine.{Stored}
 use Rattle.node_plan.specs.Laws.{DirectoryHolds}
-use Rattle.node_plan.specs.Pages.{width_with}
-use Rattle.node_plan.specs.Trees.{EndsAt}
+use Rattle.tree_plan.specs.Pages.{width_with}
+use Rattle.tree_plan.specs.Trees.{EndsAt}
 use Rattle.node_plan.proofs.LiveTrees.{tree_full, tree_below}
 
 lt_true : (a b : ℕ) → nat_lt a b ≡ true → a < b

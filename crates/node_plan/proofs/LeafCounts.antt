@@ -8,7 +8,7 @@ use Rattle.vol_numbers.specs.declared.runs.Change.{Change}
 use Rattle.block_tree.specs.Edit.{leaves_of}
 use Rattle.place_words.specs.Different.{different, is_among}
 use Rattle.place_words.proofs.Totals.{different_same}
-use Rattle.node_plan.proofs.RisingLaws.{append_among}
+use Rattle.tree_plan.proofs.RisingLaws.{append_among}
 
 -- The marked numbers below 1,024 are those of a list, which has so many different ones.
 pub record IsCounted (seen : List Bool) (xs : List ℕ) (n : ℕ) : Type 0 where

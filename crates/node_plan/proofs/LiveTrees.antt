@@ -28,7 +28,7 @@ use Rattle.image_model.proofs.SpaceLaws.{below_at}
 use Rattle.image_model.proofs.TreeLaws.{first_faults, other_faults, tree_good}
 use Rattle.point_model.specs.Holding.{inode_before}
 use Rattle.point_model.specs.PointPlan.{LiveStays}
-use Rattle.node_plan.specs.Trees.{IsFullTree}
+use Rattle.tree_plan.specs.Trees.{IsFullTree}
 use Rattle.node_plan.proofs.SameTrees.{Same}
 
 area_counted : (g : Layout) (b : ℕ) → is_in_area g b ≡ true → b < 1024 * count_blocks g

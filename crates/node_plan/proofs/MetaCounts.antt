@@ -1,42 +1,38 @@
 -- How many blocks of metadata a node has.
-use Rattle.std.proofs.Common.{◌≡◌, ℕ, zero, suc, ◌+◌, ◌*◌, ◌<◌, ◌≤◌, Bool, true, false, cond, List, [], ◌∷◌, ◌++◌, length, map, take, Some, refl, sym, ap, subst, ◌∙◌, arith, length-append}
-use Rattle.std.specs.Prelude.{◌==◌, ◌&&◌, ◌||◌, nat_eq, nat_lt, not}
-use Rattle.std.proofs.lemmas.Bool.{eqb-true}
+use Rattle.std.proofs.Common.{◌≡◌, ℕ, zero, suc, ◌+◌, ◌*◌, ◌<◌, Bool, true, false, List, [], ◌∷◌, length, map, refl, sym, ap, subst, ◌∙◌, arith, length-append}
+use Rattle.std.specs.Prelude.{◌==◌, ◌&&◌, nat_lt, not}
 use Rattle.std.proofs.lemmas.Bool.Decides.{nat_tests}
 use Rattle.vol_numbers.specs.declared.block.Block.{Block}
 use Rattle.block_format.specs.Inode.{blocks_of, pointer_of}
 use Rattle.block_format.specs.declared.inode.Inode.{Inode}
 use Rattle.block_format.specs.declared.inode.Inode.TheVariants.{Unused, File, Directory}
 use Rattle.block_tree.specs.Root.{Stays, tree_indexes}
-use Rattle.block_tree.specs.Tree.{Blocks, blocks_in, block_in, block_below, pairs_below, indexes_below}
+use Rattle.block_tree.specs.Tree.{Blocks, blocks_in, block_below, pairs_below, indexes_below}
 use Rattle.block_tree.proofs.Pairs.{pairs_are}
 use Rattle.block_tree.proofs.Rise.{places_in, pairs_rise}
 use Rattle.dir_slots.specs.Pages.{pages_for}
 use Rattle.image_model.specs.Met.{index, content, metas}
 use Rattle.image_model.specs.Nodes.{AllBelow, blocks_in_node}
 use Rattle.image_model.specs.Planned.{height_in}
-use Rattle.image_model.specs.Seen.{seen}
-use Rattle.image_model.specs.Slots.{slots_of as slots_seen}
 use Rattle.image_model.specs.Stands.{Stands}
 use Rattle.image_model.proofs.NodeWalk.{metas_append}
 use Rattle.image_model.proofs.SpaceLaws.{under}
 use Rattle.place_words.specs.Different.{is_among, span}
-use Rattle.place_words.specs.Rising.{AllUnder}
 use Rattle.place_words.proofs.Counting.{distinct_count}
 use Rattle.place_words.proofs.Rising.{rising_distinct}
 use Rattle.place_words.proofs.Totals.{different_part}
-use Rattle.point_model.specs.Holding.{inode_before, width_in}
+use Rattle.point_model.specs.Holding.{inode_before}
 use Rattle.point_model.proofs.DirectoriesStand as pages_stand
 use Rattle.volume_model.specs.Machine.{Stored}
 use Rattle.node_plan.specs.Nodes.{HasMetas}
-use Rattle.node_plan.specs.Trees.{root_of, IsTop}
+use Rattle.tree_plan.specs.Trees.{root_of, IsTop}
 use Rattle.node_plan.proofs.AtPoint.{wide_before}
 use Rattle.node_plan.proofs.LiveTrees.{tree_below}
-use Rattle.node_plan.proofs.MetaLaws.{metas_directory, metas_index, metas_content}
-use Rattle.node_plan.proofs.PageCounts.{under_among}
-use Rattle.node_plan.proofs.RisingLaws.{span_among, span_rises}
+use Rattle.tree_plan.proofs.MetaLaws.{metas_directory, metas_index, metas_content}
+use Rattle.tree_plan.proofs.PageCounts.{under_among}
+use Rattle.tree_plan.proofs.RisingLaws.{span_among, span_rises}
 use Rattle.node_plan.proofs.SameTrees.{indexes_same}
-use Rattle.node_plan.proofs.SpelledLaws.{none_among}
+use Rattle.tree_plan.proofs.SpelledLaws.{none_among}
 
 -- ---- where each place below a number of blocks has one, and no other, there are so many
 

@@ -1,8 +1,8 @@
 -- How many blocks are enough for a plan, by the kind of now.
-use Rattle.std.proofs.Common.{◌≡◌, ℕ, ◌+◌, ◌<◌, ◌≤◌, true, List, length, Some, sym, ap, subst, ◌∙◌, arith}
+use Rattle.std.proofs.Common.{◌≡◌, ℕ, ◌+◌, ◌<◌, ◌≤◌, true, List, Some, sym, subst, arith}
 use Rattle.std.specs.Prelude.{All}
 use Rattle.vol_numbers.specs.declared.runs.Change.{Change}
-use Rattle.block_format.specs.Inode.{blocks_of, pointer_of}
+use Rattle.block_format.specs.Inode.{blocks_of}
 use Rattle.block_format.specs.declared.inode.Inode.{Inode}
 use Rattle.block_format.specs.declared.inode.Inode.TheVariants.{Unused, File, Directory}
 use Rattle.node_table.specs.declared.held.NodeInfo.TheVariants as infos

@@ -11,7 +11,7 @@ use Rattle.block_format.specs.Slot.{SlotFits}
 use Rattle.block_format.specs.declared.inode.Inode.{Inode}
 use Rattle.block_format.specs.declared.inode.Inode.TheVariants.{Unused, File, Directory}
 use Rattle.block_format.specs.declared.slot.Slot.{Slot}
-use Rattle.block_tree.specs.Notes.{page_blocks, change_blocks, Stand}
+use Rattle.block_tree.specs.Notes.{page_blocks, change_blocks}
 use Rattle.block_tree.specs.Tree.{blocks_in, pairs_below}
 use Rattle.dir_slots.specs.Pages.{pages_for}
 use Rattle.dir_slots.specs.Slots.{IsDirectory, slot_at}
@@ -22,19 +22,19 @@ use Rattle.node_table.specs.Held.{info}
 use Rattle.node_table.specs.declared.held.NodeInfo.TheVariants as infos
 use Rattle.place_words.specs.Different.{is_among, times}
 use Rattle.point_model.specs.Holding.{inode_before, staged_or, kind_of, slot_or, as_node}
-use Rattle.point_model.specs.NodePlan.{node_metas, node_pointers, AreOfPlaces, TreeIsPlanned, PointersArePlanned}
-use Rattle.point_model.specs.PointPlan.{LiveStays, NodeIsPlanned, ContentIsPlanned, told}
+use Rattle.point_model.specs.NodePlan.{node_metas, TreeIsPlanned, PointersArePlanned}
+use Rattle.point_model.specs.PointPlan.{NodeIsPlanned, ContentIsPlanned, told}
 use Rattle.point_model.proofs.Numbers.{told_none, told_file}
-use Rattle.volume_model.specs.Machine.{Machine, Rules}
+use Rattle.volume_model.specs.Machine.{Machine}
 use Rattle.volume_model.specs.Places.{Places, spot_cmp}
-use Rattle.node_plan.specs.Directories.{HoldsDirectory}
-use Rattle.node_plan.specs.Nodes.{IsAtPoint, IsTreePlanned, HasMetas, PlansNode, left_after, slots_over, node_over}
-use Rattle.node_plan.specs.Pages.{width_with, SlotsFit}
-use Rattle.node_plan.specs.Trees.{Carries, EndsAt, IsFullTree, IsTop}
-use Rattle.node_plan.specs.declared.plan.TreePlan.{TreePlan}
+use Rattle.tree_plan.specs.Directories.{HoldsDirectory}
+use Rattle.node_plan.specs.Nodes.{IsTreePlanned, HasMetas, left_after, slots_over}
+use Rattle.tree_plan.specs.Pages.{width_with, SlotsFit}
+use Rattle.tree_plan.specs.Trees.{Carries, EndsAt, IsFullTree, IsTop}
+use Rattle.tree_plan.specs.declared.plan.TreePlan.{TreePlan}
 use Rattle.node_plan.proofs.AtPoint.{whole, carries, left_is, unused_ends, file_ends, directory_held}
 use Rattle.node_plan.proofs.MetaCounts.{metas_unused, metas_of_file, metas_of_directory}
-use Rattle.node_plan.proofs.SlotLaws.{in_list, length_from, none_past, width_is}
+use Rattle.tree_plan.proofs.SlotLaws.{in_list, length_from, none_past, width_is}
 
 -- ---- the slots of now are a directory
 

@@ -33,9 +33,9 @@ use Rattle.volume_model.specs.Machine.{Machine, Stored}
 use Rattle.volume_model.specs.Places.{Spot, Places, has_spot}
 use Rattle.node_plan.specs.Laws.{UnstagedIsPlanned}
 use Rattle.node_plan.proofs.LiveTrees.{tree_full, tree_below, tree_stays}
-use Rattle.node_plan.proofs.RisingLaws.{append_among}
+use Rattle.tree_plan.proofs.RisingLaws.{append_among}
 use Rattle.node_plan.proofs.SameTrees.{Same, indexes_same, pairs_same, block_same, full_same}
-use Rattle.node_plan.proofs.SlotLaws.{width_is}
+use Rattle.tree_plan.proofs.SlotLaws.{width_is}
 
 -- ---- what isn't staged
 

@@ -30,3 +30,11 @@ IsNodeDamage g tells contents old new (Err ReadFault) = Unit {0}
 IsNodeDamage g tells contents old new (Err (Damaged b)) = IsDamage g tells contents old new b
 IsNodeDamage g tells contents old new (Err OutOfMemory) = Unit {0}
 IsNodeDamage g tells contents old new (Err Short) = Unit {0}
+
+-- a fact of the block that is damaged, where one is
+abbrev pub IfNodeDamaged : {T : Type 0} → Result T NodeFault → (ℕ → Type 0) → Type 0
+IfNodeDamaged (Ok value) fact = Unit {0}
+IfNodeDamaged (Err ReadFault) fact = Unit {0}
+IfNodeDamaged (Err (Damaged b)) fact = fact b
+IfNodeDamaged (Err OutOfMemory) fact = Unit {0}
+IfNodeDamaged (Err Short) fact = Unit {0}

@@ -11,7 +11,7 @@ use Rattle.place_words.specs.Different.{is_among}
 use Rattle.point_model.specs.Holding.{inode_before, slots_left, kind_of, width_in}
 use Rattle.point_model.specs.OldPages.{DirectoriesStand}
 use Rattle.point_model.specs.PointPlan.{LiveStays, NodeIsPlanned}
-use Rattle.node_plan.specs.Directories.{HoldsDirectory}
+use Rattle.tree_plan.specs.Directories.{HoldsDirectory}
 use Rattle.volume_model.specs.Machine.{Machine, Stored}
 use Rattle.volume_model.specs.Places.{Places}
 

@@ -1,7 +1,3 @@
-pub mod Trees
-pub mod Pages
-pub mod Directories
 pub mod Laws
-pub mod Renewed
 pub mod Nodes
 pub mod Faults

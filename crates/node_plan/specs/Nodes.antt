@@ -26,9 +26,9 @@ use Rattle.point_model.specs.PointPlan.{LiveStays, NodeIsPlanned, told}
 use Rattle.state_laws.specs.States.{IsCoherent}
 use Rattle.volume_model.specs.Machine.{Machine, Rules, stored}
 use Rattle.volume_model.specs.Places.{Places}
-use Rattle.node_plan.specs.Pages.{slot_with, width_with, written_pages}
-use Rattle.node_plan.specs.Trees.{root_of, Carries, IsTop}
-use Rattle.node_plan.specs.declared.plan.TreePlan.{TreePlan}
+use Rattle.tree_plan.specs.Pages.{slot_with, width_with, written_pages}
+use Rattle.tree_plan.specs.Trees.{root_of, Carries, IsTop}
+use Rattle.tree_plan.specs.declared.plan.TreePlan.{TreePlan}
 
 -- ---- what a number is now, whatever the disk
 

@@ -1,5 +1,5 @@
 //! Counts the index blocks of a tree.
-ghost use Rattle.std.specs.Prelude.{◌≡◌, ◌<◌, ◌≤◌, ◌↔◌, length, IfOk, IfSome, IfNone, IsTrue, false};
+ghost use Rattle.std.specs.Prelude.{◌≡◌, ◌<◌, ◌≤◌, ◌↔◌, length, IfOk, IfSome, IfNone, IsTrue, true, false};
 ghost use Rattle.vol_numbers.specs.Geometry.{layout_of};
 ghost use Rattle.disk_model.specs.Past.{Adds};
 ghost use Rattle.place_words.specs.Different.{is_among};
@@ -7,10 +7,10 @@ ghost use Rattle.block_format.specs.Index.{IsPointer};
 ghost use Rattle.block_tree.specs.Tree.{Blocks, blocks_in, index_at, nonzero};
 ghost use Rattle.block_tree.specs.Root.{IsRoot, tree_indexes};
 ghost use Rattle.block_tree.specs.Notes.{Stand, page_blocks};
-ghost use Rattle.block_tree.specs.Causes.{HasTreeCause, IsTreeDamage};
-ghost use Rattle.node_plan.specs.Trees.{HasTopIndex};
+ghost use Rattle.block_tree.specs.Causes.{HasTreeCause, IsTreeDamage, IfTreeDamaged, IsBlockOf};
+ghost use Rattle.tree_plan.specs.Trees.{HasTopIndex};
 
-use block_format::{Index, read_counts, read_index};
+use block_format::{Index, counts_of_block, read_counts, read_index};
 use block_tree::{TreeFault, TreeRoot};
 use disk_model::{Disk, DiskFault};
 use vol_numbers::{Block, BlockNo, Geometry, Page};
@@ -26,6 +26,8 @@ pub(crate) fn index_count<D: Disk>(
     ensures count { IfOk result (λ n. IsTrue D.tells → n ≡ length (tree_indexes (blocks_in (D.state disk.old).contents) root.now)) }
     ensures at_most { IfOk result (λ n. n ≤ 1025) }
     ensures damaged { IsTreeDamage (layout_of g.now) D.tells (blocks_in (D.state disk.new).contents) (D.given disk.old) (D.given disk.new) result }
+    // A damaged block is one of the tree's index blocks.
+    ensures among { IfTreeDamaged result (λ b. IsTrue D.tells → is_among (tree_indexes (blocks_in (D.state disk.old).contents) root.now) b ≡ true) }
     ensures same { IsTrue D.tells → D.state disk.new ≡ D.state disk.old }
     ensures moments { IsTrue D.tells → Adds (D.past disk.old) (D.past disk.new) (λ s. s ≡ D.state disk.old) }
     ensures fixed { D.fixed disk.new ≡ D.fixed disk.old }
@@ -84,6 +86,7 @@ fn top_index<D: Disk>(disk: &mut D, g: &Geometry, at: BlockNo) -> Result<Index, 
     requires some { 0 < at }
     ensures pointers { IfOk result (λ index. IsTrue D.tells → index_at (blocks_in (D.state disk.old).contents) at ≡ index.ptrs) }
     ensures damaged { IsTreeDamage (layout_of g.now) D.tells (blocks_in (D.state disk.new).contents) (D.given disk.old) (D.given disk.new) result }
+    ensures read { IfTreeDamaged result (IsBlockOf at) }
     ensures same { IsTrue D.tells → D.state disk.new ≡ D.state disk.old }
     ensures moments { IsTrue D.tells → Adds (D.past disk.old) (D.past disk.new) (λ s. s ≡ D.state disk.old) }
     ensures fixed { D.fixed disk.new ≡ D.fixed disk.old }
@@ -95,7 +98,11 @@ fn top_index<D: Disk>(disk: &mut D, g: &Geometry, at: BlockNo) -> Result<Index, 
     }
     match read_index(&block, g) {
         Some(index) => Ok(index),
-        None => Err(TreeFault::Damaged(at)),
+        None => {
+            // Each block spells numbers, so that this one has a number that is no pointer.
+            counts_of_block(&block);
+            Err(TreeFault::Damaged(at))
+        }
     }
 }
 

@@ -15,24 +15,21 @@ ghost use Rattle.dirty_store.specs.Overlay.{node_of};
 ghost use Rattle.node_table.specs.declared.held.NodeInfo.TheVariants.{File as FileOf};
 ghost use Rattle.point_model.specs.Holding.{staged_or, kind_of};
 ghost use Rattle.point_model.specs.PointPlan.{told};
-ghost use Rattle.node_plan.specs.Faults.{HasNodeCause, IsNodeDamage};
+ghost use Rattle.node_plan.specs.Faults.{HasNodeCause, IsNodeDamage, IfNodeDamaged};
 ghost use Rattle.node_plan.specs.Nodes.{left_after, slots_over, size_in, rough_need, IsTreePlanned};
-ghost use Rattle.node_plan.specs.Pages.{slots_or_none};
-ghost use Rattle.node_plan.specs.Trees.{root_of};
+ghost use Rattle.tree_plan.specs.Pages.{slots_or_none};
+ghost use Rattle.tree_plan.specs.Trees.{root_of, IsOldIndex};
 ghost use Rattle.node_plan.specs.declared.fault.NodeFault.TheVariants.{Short};
 
-use crate::directory::plan_directory;
-use crate::emptying::plan_removed;
-use crate::file::plan_file;
-use crate::pages::written_pages;
+use crate::NodeFault;
 use crate::room::{has_room, leaf_count};
-use crate::{NodeFault, TreePlan};
 use block_format::Inode;
 use dir_slots::Directory;
 use dirty_store::DirtyStore;
 use disk_model::Disk;
 use run_allocator::FreeMap;
 use std::alloc::Global;
+use tree_plan::{TreePlan, plan_directory, plan_file, plan_removed, written_pages};
 use vol_numbers::{ChangeList, Geometry, InoNo};
 
 /// Plans the tree of a number by its kind now.
@@ -58,6 +55,8 @@ pub(crate) fn plan_tree<D: Disk>(
     ensures short { IsErrOf result Short → length free.old < rough_need store.now.overlay number was.now (slots_or_none (option_copied left.entry)) changes.now }
     ensures unchanged { OnErr result (free.new ≡ free.old) }
     ensures damaged { IsNodeDamage (layout_of g.now) D.tells (blocks_in (D.state disk.new).contents) (D.given disk.old) (D.given disk.new) result }
+    // A damaged block is one of the index blocks of the old tree.
+    ensures among { IfNodeDamaged result (IsOldIndex D.tells (D.state disk.old).contents was.now) }
     ensures same { IsTrue D.tells → D.state disk.new ≡ D.state disk.old }
     ensures moments { IsTrue D.tells → Adds (D.past disk.old) (D.past disk.new) (λ s. s ≡ D.state disk.old) }
     ensures fixed { D.fixed disk.new ≡ D.fixed disk.old }
@@ -117,6 +116,7 @@ fn plan_unused<D: Disk>(
     ensures short { IsErrOf result Short → length free.old < rough_need store.now.overlay number was.now (slots_or_none (option_copied left.entry)) changes.now }
     ensures unchanged { OnErr result (free.new ≡ free.old) }
     ensures damaged { IsNodeDamage (layout_of g.now) D.tells (blocks_in (D.state disk.new).contents) (D.given disk.old) (D.given disk.new) result }
+    ensures among { IfNodeDamaged result (IsOldIndex D.tells (D.state disk.old).contents was.now) }
     ensures same { IsTrue D.tells → D.state disk.new ≡ D.state disk.old }
     ensures moments { IsTrue D.tells → Adds (D.past disk.old) (D.past disk.new) (λ s. s ≡ D.state disk.old) }
     ensures fixed { D.fixed disk.new ≡ D.fixed disk.old }
@@ -150,6 +150,7 @@ fn plan_bytes<D: Disk>(
     ensures short { IsErrOf result Short → length free.old < rough_need store.now.overlay number was.now (slots_or_none (option_copied left.entry)) changes.now }
     ensures unchanged { OnErr result (free.new ≡ free.old) }
     ensures damaged { IsNodeDamage (layout_of g.now) D.tells (blocks_in (D.state disk.new).contents) (D.given disk.old) (D.given disk.new) result }
+    ensures among { IfNodeDamaged result (IsOldIndex D.tells (D.state disk.old).contents was.now) }
     ensures same { IsTrue D.tells → D.state disk.new ≡ D.state disk.old }
     ensures moments { IsTrue D.tells → Adds (D.past disk.old) (D.past disk.new) (λ s. s ≡ D.state disk.old) }
     ensures fixed { D.fixed disk.new ≡ D.fixed disk.old }
@@ -185,6 +186,7 @@ fn plan_names<D: Disk>(
     ensures short { IsErrOf result Short → length free.old < rough_need store.now.overlay number was.now (slots_or_none (option_copied left.entry)) changes.now }
     ensures unchanged { OnErr result (free.new ≡ free.old) }
     ensures damaged { IsNodeDamage (layout_of g.now) D.tells (blocks_in (D.state disk.new).contents) (D.given disk.old) (D.given disk.new) result }
+    ensures among { IfNodeDamaged result (IsOldIndex D.tells (D.state disk.old).contents was.now) }
     ensures same { IsTrue D.tells → D.state disk.new ≡ D.state disk.old }
     ensures moments { IsTrue D.tells → Adds (D.past disk.old) (D.past disk.new) (λ s. s ≡ D.state disk.old) }
     ensures fixed { D.fixed disk.new ≡ D.fixed disk.old }

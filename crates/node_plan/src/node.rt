@@ -5,12 +5,12 @@ ghost use Rattle.vol_numbers.specs.Geometry.{layout_of};
 ghost use Rattle.vol_numbers.specs.declared.block.Block.{Block};
 ghost use Rattle.vol_numbers.specs.declared.runs.Change.{Change as ChangeOf};
 ghost use Rattle.disk_model.specs.Past.{Adds};
-ghost use Rattle.place_words.specs.Different.{times};
+ghost use Rattle.place_words.specs.Different.{is_among, times};
 ghost use Rattle.block_format.specs.Index.{IsPointer};
 ghost use Rattle.block_format.specs.Inode.{blocks_of, inode_shape};
 ghost use Rattle.block_tree.specs.Notes.{Stand, page_blocks, change_blocks};
 ghost use Rattle.block_tree.specs.Pages.{LeadInto};
-ghost use Rattle.block_tree.specs.Root.{IsRoot};
+ghost use Rattle.block_tree.specs.Root.{IsRoot, tree_indexes};
 ghost use Rattle.block_tree.specs.Tree.{blocks_in};
 ghost use Rattle.dir_slots.specs.Slots.{IsDirectory};
 ghost use Rattle.dirty_store.specs.Overlay.{node_of};
@@ -22,13 +22,12 @@ ghost use Rattle.point_model.specs.PointPlan.{LiveStays, told};
 ghost use Rattle.volume_model.specs.Machine.{Machine, Rules};
 ghost use Rattle.node_plan.specs.Faults.{HasNodeCause, IsNodeDamage};
 ghost use Rattle.node_plan.specs.Nodes.{left_after, slots_over, node_over, size_in, rough_need, IsAtPoint, PlansNode, IsTreePlanned};
-ghost use Rattle.node_plan.specs.Pages.{slots_or_none};
-ghost use Rattle.node_plan.specs.Trees.{root_of};
-ghost use Rattle.node_plan.specs.declared.fault.NodeFault.TheVariants.{Short};
+ghost use Rattle.tree_plan.specs.Pages.{slots_or_none};
+ghost use Rattle.tree_plan.specs.Trees.{root_of};
+ghost use Rattle.node_plan.specs.declared.fault.NodeFault.TheVariants.{Damaged, Short};
 
 use crate::counting::{index_count, index_count_with};
 use crate::kinds::plan_tree;
-use crate::root::{own_pages, root_of};
 use crate::{NodeFault, NodePlan};
 use block_format::Inode;
 use dir_slots::Directory;
@@ -36,6 +35,7 @@ use dirty_store::DirtyStore;
 use disk_model::Disk;
 use run_allocator::FreeMap;
 use std::alloc::Global;
+use tree_plan::{own_pages, root_of};
 use vol_numbers::{ChangeList, Geometry, InoNo};
 
 /// Plans a number of which something is staged, by its kind now. It writes nothing.
@@ -78,6 +78,8 @@ pub fn plan_node<D: Disk>(
     ensures short { IsErrOf result Short → length free.old < rough_need store.now.overlay number was.now (slots_or_none (option_copied left.entry)) changes.now }
     ensures unchanged { OnErr result (free.new ≡ free.old) }
     ensures damaged { IsNodeDamage (layout_of g.now) D.tells (blocks_in (D.state disk.new).contents) (D.given disk.old) (D.given disk.new) result }
+    // A damaged block is one of the index blocks of the old tree.
+    ensures among { (b : ℕ) → IsErrOf result (Damaged b) → IsTrue D.tells → is_among (tree_indexes (blocks_in (D.state disk.old).contents) (root_of was.now)) b ≡ true }
     ensures same { IsTrue D.tells → D.state disk.new ≡ D.state disk.old }
     ensures moments { IsTrue D.tells → Adds (D.past disk.old) (D.past disk.new) (λ s. s ≡ D.state disk.old) }
     ensures fixed { D.fixed disk.new ≡ D.fixed disk.old }

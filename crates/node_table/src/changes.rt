@@ -170,7 +170,8 @@ impl NodeTable {
     }
 }
 
-pub(crate) fn last_name(path: &Path) -> &Name
+/// The last name of a path that isn't the root's.
+pub fn last_name(path: &Path) -> &Name
     requires { is_root path.now ≡ false }
     ensures { path.now ≡ parent_of path.now ++ result.now ∷ [] }
 {

@@ -13,5 +13,6 @@ mod table;
 mod walks;
 
 pub use change::Change;
+pub use changes::last_name;
 pub use held::{FoundNode, NodeInfo};
 pub use table::NodeTable;

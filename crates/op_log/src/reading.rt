@@ -1,5 +1,5 @@
 //! Reads the records of a root.
-ghost use Rattle.std.specs.Prelude.{◌≡◌, ◌<◌, ◌≤◌, All, IfOk, IsTrue, length};
+ghost use Rattle.std.specs.Prelude.{◌≡◌, ◌<◌, ◌≤◌, ◌+◌, All, IfOk, IsTrue, length};
 ghost use Rattle.vol_numbers.specs.Layout.{log_start};
 ghost use Rattle.disk_model.specs.Past.{Adds};
 ghost use Rattle.block_format.specs.Root.{root_of, HasGeometry};
@@ -33,6 +33,10 @@ pub fn read_all<D: Disk>(
     ensures have_records { IfOk result (All HasRecord) }
     ensures within { IfOk result (λ commands. blocks_of commands ≤ body.now.log_used) }
     ensures bad_number { IfBadRecord result (λ number. number < body.now.records) }
+
+    // Each block of these records is read once, and where one is bad no used block is read twice.
+    ensures reads { IfOk result (λ commands. (D.given disk.new).count ≤ (D.given disk.old).count + blocks_of commands) }
+    ensures reads_bad { IfBadRecord result (λ number. (D.given disk.new).count ≤ (D.given disk.old).count + body.now.log_used) }
 
     ensures same { IsTrue D.tells → D.state disk.new ≡ D.state disk.old }
     ensures moments { IsTrue D.tells → Adds (D.past disk.old) (D.past disk.new) (λ s. s ≡ D.state disk.old) }

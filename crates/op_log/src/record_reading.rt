@@ -28,6 +28,8 @@ pub(crate) fn push_next<D: Disk>(
     requires fits { at + left ≤ 65536 }
     ensures gained { IfOk result (λ found. IfSome found (GainsRecord D.tells (D.state disk.old).contents at left commands.old.items commands.new.items)) }
     ensures none { IfOk result (λ found. IfNone found (IsTrue D.tells → NoRecordStands (D.state disk.old).contents at left)) }
+    ensures reads { IfOk result (λ found. IfSome found (λ count. (D.given disk.new).count ≤ (D.given disk.old).count + count)) }
+    ensures reads_none { IfOk result (λ found. IfNone found ((D.given disk.new).count ≤ (D.given disk.old).count + left)) }
     ensures same { IsTrue D.tells → D.state disk.new ≡ D.state disk.old }
     ensures moments { IsTrue D.tells → Adds (D.past disk.old) (D.past disk.new) (λ s. s ≡ D.state disk.old) }
     ensures fixed { D.fixed disk.new ≡ D.fixed disk.old }
@@ -68,6 +70,8 @@ fn next_record<D: Disk>(
     ensures within { IfOk result (λ found. IfSome found (λ c. record_blocks c ≤ left)) }
     ensures stands { IfOk result (λ found. IfSome found (λ c. IsTrue D.tells → RecordStands (D.state disk.old).contents at c)) }
     ensures none { IfOk result (λ found. IfNone found (IsTrue D.tells → NoRecordStands (D.state disk.old).contents at left)) }
+    ensures reads { IfOk result (λ found. IfSome found (λ c. (D.given disk.new).count ≤ (D.given disk.old).count + record_blocks c)) }
+    ensures reads_none { IfOk result (λ found. IfNone found ((D.given disk.new).count ≤ (D.given disk.old).count + left)) }
     ensures same { IsTrue D.tells → D.state disk.new ≡ D.state disk.old }
     ensures moments { IsTrue D.tells → Adds (D.past disk.old) (D.past disk.new) (λ s. s ≡ D.state disk.old) }
     ensures fixed { D.fixed disk.new ≡ D.fixed disk.old }
@@ -96,6 +100,8 @@ fn record_bytes<D: Disk>(
     ensures whole { IfOk result (λ found. IfSome found (λ bytes. IsWhole bytes.items left)) }
     ensures are_blocks { IfOk result (λ found. IfSome found (λ bytes. IsTrue D.tells → AreBlocks (D.state disk.old).contents at (blocks_in (head_in bytes.items)) bytes.items)) }
     ensures none { IfOk result (λ found. IfNone found (IsTrue D.tells → NoRecordStands (D.state disk.old).contents at left)) }
+    ensures reads { IfOk result (λ found. IfSome found (λ bytes. (D.given disk.new).count ≤ (D.given disk.old).count + blocks_in (head_in bytes.items))) }
+    ensures reads_none { IfOk result (λ found. IfNone found ((D.given disk.new).count ≤ (D.given disk.old).count + left)) }
     ensures same { IsTrue D.tells → D.state disk.new ≡ D.state disk.old }
     ensures moments { IsTrue D.tells → Adds (D.past disk.old) (D.past disk.new) (λ s. s ≡ D.state disk.old) }
     ensures fixed { D.fixed disk.new ≡ D.fixed disk.old }
@@ -136,6 +142,7 @@ fn read_up_to<D: Disk>(
     ensures long { OnOk result (length bytes.new.items ≡ 4096 * count) }
     ensures front { OnOk result (take (4096 * done) bytes.new.items ≡ bytes.old.items) }
     ensures blocks { OnOk result (IsTrue D.tells → AreBlocks (D.state disk.old).contents at count bytes.new.items) }
+    ensures reads { OnOk result ((D.given disk.new).count + done ≤ (D.given disk.old).count + count) }
     ensures same { IsTrue D.tells → D.state disk.new ≡ D.state disk.old }
     ensures moments { IsTrue D.tells → Adds (D.past disk.old) (D.past disk.new) (λ s. s ≡ D.state disk.old) }
     ensures fixed { D.fixed disk.new ≡ D.fixed disk.old }
@@ -155,6 +162,7 @@ fn read_onto<D: Disk>(disk: &mut D, at: BlockNo, bytes: &mut Vec<u8>) -> Result<
     ensures long { OnOk result (length bytes.new.items ≡ length bytes.old.items + 4096) }
     ensures front { OnOk result (take (length bytes.old.items) bytes.new.items ≡ bytes.old.items) }
     ensures block { OnOk result (IsTrue D.tells → slice_get (D.state disk.old).contents at ≡ Some (record { bytes = drop (length bytes.old.items) bytes.new.items })) }
+    ensures reads { OnOk result ((D.given disk.new).count ≤ (D.given disk.old).count + 1) }
     ensures same { IsTrue D.tells → D.state disk.new ≡ D.state disk.old }
     ensures moments { IsTrue D.tells → Adds (D.past disk.old) (D.past disk.new) (λ s. s ≡ D.state disk.old) }
     ensures fixed { D.fixed disk.new ≡ D.fixed disk.old }

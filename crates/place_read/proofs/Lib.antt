@@ -2,3 +2,4 @@ pub mod BlockLaws
 pub mod PartLaws
 pub mod Places
 pub mod ReadData
+pub mod SoundLaws

@@ -21,7 +21,7 @@ damage_passed {T} g tells contents old middle new (Err f) fault same le is =
   where
     by : (fault : LookFault) → IsLookDamage {T = Unit {0}} g tells contents middle new (Err fault) → IsTreeDamage {T = T} g tells contents old new (Err (as_tree_fault fault))
     by Device is = tt
-    by (Damaged b) is = record { number = is.number; rose = omega (arith, is.rose, le); outside = is.outside; stands = is.stands }
+    by (Damaged b) is = record { number = is.number; rose = omega (arith, is.rose, le); outside = is.outside; pointer = is.pointer; stands = is.stands }
 
 -- each of these is the byte of the file from the offset on
 abbrev pub AreFrom : List ℕ → ℕ → List ℕ → Type 0

@@ -14,12 +14,12 @@ use Rattle.image_model.specs.Standing.{some_block}
 use Rattle.image_model.proofs.FileLaws.{places_are_seen}
 use Rattle.image_states.proofs.SeenPlaces.{FileAt, file_at, none, reads_block}
 use Rattle.inode_file.specs.Inodes.{InodeTable, inode_of}
-use Rattle.place_read.specs.Holding.{HoldsFiles}
+use Rattle.place_read.specs.Holding.{HoldsFiles, stored_with}
 use Rattle.place_read.specs.Stored.{block_of_place, bytes_at}
 use Rattle.point_model.specs.Holding.{inode_before}
 use Rattle.state_laws.specs.Files.{zero_block}
 use Rattle.state_laws.proofs.HeldBytes.{found_spot}
-use Rattle.volume_model.specs.Machine.{Machine, Rules, block_at, stored}
+use Rattle.volume_model.specs.Machine.{Machine, Rules, block_at}
 use Rattle.volume_model.specs.Places.{Spot, spot_cmp, spot_eq, has_spot, spots_of}
 use Rattle.volume_model.proofs.PlacesTold.{tie_is, find_none}
 
@@ -59,7 +59,7 @@ module _ (r : Rules) (m : Machine) (image : List Block) (inodes : InodeTable) (o
   no_place n p not = by (has_spot (spots_of m.stored_places) (n, p)) refl
     where
       by : (t : Bool) → has_spot (spots_of m.stored_places) (n, p) ≡ t → find spot_cmp (n, p) m.stored_places ≡ None
-      by true has = absurd (not (file_at image (stored m) holds.stands n p has))
+      by true has = absurd (not (file_at image (stored_with holds.records m) holds.stands n p has))
       by false has = find_none (n, p) m.stored_places has
 
   past_end : (x : Inode) (p size height ptr : ℕ) → x ≡ File size height ptr → nat_lt p (blocks_of size) ≡ false → FileAt x p → ⊥
@@ -78,7 +78,7 @@ module _ (r : Rules) (m : Machine) (image : List Block) (inodes : InodeTable) (o
   stored_block n p (File size height ptr) is = by (nat_lt p (blocks_of size)) refl
     where
       by : (t : Bool) → nat_lt p (blocks_of size) ≡ t → some_block (block_of_place (blocks_in image) (File size height ptr) p) ≡ find spot_cmp (n, p) m.stored_places
-      by true lt = ap some_block (within lt) ∙ sym (ap (find spot_cmp (n, p)) holds.stands.shows.places ∙ places_are_seen image n size height ptr p (none image (stored m) holds.stands) is)
+      by true lt = ap some_block (within lt) ∙ sym (ap (find spot_cmp (n, p)) holds.stands.shows.places ∙ places_are_seen image n size height ptr p (none image (stored_with holds.records m) holds.stands) is)
         where
           within : nat_lt p (blocks_of size) ≡ true → block_of_place (blocks_in image) (File size height ptr) p ≡ block_below (blocks_in image) height ptr p
           within lt = rw lt refl
@@ -109,4 +109,4 @@ module _ (r : Rules) (m : Machine) (image : List Block) (inodes : InodeTable) (o
           let own : bytes ≡ blocks_in image b = here ∙ ap (λ (t : Bool). cond t zero_block (blocks_in image b)) some in
           let found : find spot_cmp (n, p) m.kept ≡ Some b = kept ∙ ap (λ (t : Bool). cond t None (Some b)) some in
           let was : find spot_cmp (n, p) m.stored_places ≡ Some b = sym (kept_is (n, p) free left) ∙ found in
-          own ∙ sym (take_at (blocks_in image b) (replicate 4096 0) 4096 (ap length (sym own) ∙ long)) ∙ sym (reads_block image (stored m) holds.stands (n, p) b was) ∙ sym (holds.coherent.unchanged (n, p) (found_spot m.kept (n, p) b found))
+          own ∙ sym (take_at (blocks_in image b) (replicate 4096 0) 4096 (ap length (sym own) ∙ long)) ∙ sym (reads_block image (stored_with holds.records m) holds.stands (n, p) b was) ∙ sym (holds.coherent.unchanged (n, p) (found_spot m.kept (n, p) b found))

@@ -2,7 +2,7 @@
 ghost use Rattle.std.specs.Prelude.{◌≡◌, ◌<◌, ◌≤◌, ◌+◌, ◌-◌, ◌++◌, ℕ, min, length, take, drop, slice_range, slice_index_or, IfOk, OnOk, IsTrue};
 ghost use Rattle.vol_numbers.specs.Geometry.{layout_of};
 ghost use Rattle.disk_model.specs.Past.{Adds};
-ghost use Rattle.block_tree.specs.Causes.{HasTreeCause, IsTreeDamage};
+ghost use Rattle.block_tree.specs.Causes.{HasTreeCause, IsTreeDamage, IfTreeDamaged};
 ghost use Rattle.block_tree.specs.Tree.{blocks_in};
 ghost use Rattle.inode_file.specs.Loading.{IsWithin};
 ghost use Rattle.volume_model.specs.Machine.{Machine, Rules, bytes_numbered};
@@ -55,6 +55,8 @@ pub fn read_bytes<D: Disk>(
     ensures read { IfOk result (λ bytes. IsTrue D.tells → (r : Rules) (m : Machine) → HoldsFiles r m (D.state disk.old).contents inodes.now dirty.now.overlay
         → length (bytes_numbered part.now.number m.tree) ≡ part.now.size → bytes ≡ take part.now.length (drop part.now.offset (bytes_numbered part.now.number m.tree))) }
     ensures damaged { IsTreeDamage (layout_of g.now) D.tells (blocks_in (D.state disk.new).contents) (D.given disk.old) (D.given disk.new) result }
+    // Over contents that stand for something no block is damaged.
+    ensures sound { IsTrue D.tells → (r : Rules) (m : Machine) → HoldsFiles r m (D.state disk.old).contents inodes.now dirty.now.overlay → m.layout ≡ layout_of g.now → IfTreeDamaged result (λ b. ⊥) }
     ensures same { IsTrue D.tells → D.state disk.new ≡ D.state disk.old }
     ensures moments { IsTrue D.tells → Adds (D.past disk.old) (D.past disk.new) (λ s. s ≡ D.state disk.old) }
     ensures fixed { D.fixed disk.new ≡ D.fixed disk.old }
@@ -86,6 +88,8 @@ fn push_places<D: Disk>(
     ensures read { OnOk result (IsTrue D.tells → (r : Rules) (m : Machine) → HoldsFiles r m (D.state disk.old).contents inodes.now dirty.now.overlay
         → (i : ℕ) → i < length bytes.new.items → slice_index_or bytes.new.items i 0 ≡ slice_index_or (bytes_numbered part.now.number m.tree) (part.now.offset + i) 0) }
     ensures damaged { IsTreeDamage (layout_of g.now) D.tells (blocks_in (D.state disk.new).contents) (D.given disk.old) (D.given disk.new) result }
+    // Over contents that stand for something no block is damaged.
+    ensures sound { IsTrue D.tells → (r : Rules) (m : Machine) → HoldsFiles r m (D.state disk.old).contents inodes.now dirty.now.overlay → m.layout ≡ layout_of g.now → IfTreeDamaged result (λ b. ⊥) }
     ensures same { IsTrue D.tells → D.state disk.new ≡ D.state disk.old }
     ensures moments { IsTrue D.tells → Adds (D.past disk.old) (D.past disk.new) (λ s. s ≡ D.state disk.old) }
     ensures fixed { D.fixed disk.new ≡ D.fixed disk.old }

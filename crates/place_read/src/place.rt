@@ -2,7 +2,7 @@
 ghost use Rattle.std.specs.Prelude.{◌≡◌, ◌≤◌, length, OnOk, IsTrue};
 ghost use Rattle.vol_numbers.specs.Geometry.{layout_of};
 ghost use Rattle.disk_model.specs.Past.{Adds};
-ghost use Rattle.block_tree.specs.Causes.{HasLookCause, IsLookDamage};
+ghost use Rattle.block_tree.specs.Causes.{HasLookCause, IsLookDamage, IfLookDamaged};
 ghost use Rattle.block_tree.specs.Tree.{blocks_in};
 ghost use Rattle.inode_file.specs.Loading.{IsWithin};
 ghost use Rattle.volume_model.specs.Machine.{Machine, Rules, block_at};
@@ -33,6 +33,8 @@ pub fn read_place<D: Disk>(
     requires number { number ≤ 65535 }
     ensures read { OnOk result (IsTrue D.tells → (r : Rules) (m : Machine) → HoldsFiles r m (D.state disk.old).contents inodes.now dirty.now.overlay → into.new.bytes ≡ block_at m.tree (number, place)) }
     ensures damaged { IsLookDamage (layout_of g.now) D.tells (blocks_in (D.state disk.new).contents) (D.given disk.old) (D.given disk.new) result }
+    // Over contents that stand for something no block is damaged.
+    ensures sound { IsTrue D.tells → (r : Rules) (m : Machine) → HoldsFiles r m (D.state disk.old).contents inodes.now dirty.now.overlay → m.layout ≡ layout_of g.now → IfLookDamaged result (λ b. ⊥) }
     ensures same { IsTrue D.tells → D.state disk.new ≡ D.state disk.old }
     ensures moments { IsTrue D.tells → Adds (D.past disk.old) (D.past disk.new) (λ s. s ≡ D.state disk.old) }
     ensures fixed { D.fixed disk.new ≡ D.fixed disk.old }

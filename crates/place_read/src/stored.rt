@@ -1,13 +1,14 @@
 //! Places as they were at the last point.
-ghost use Rattle.std.specs.Prelude.{◌≡◌, ◌<◌, ◌^◌, IfOk, OnOk, IfSome, IsTrue};
+ghost use Rattle.std.specs.Prelude.{◌≡◌, ◌<◌, ◌^◌, true, IfOk, OnOk, IfSome, IsTrue};
 ghost use Rattle.vol_numbers.specs.Geometry.{layout_of};
 ghost use Rattle.disk_model.specs.Past.{Adds};
 ghost use Rattle.block_format.specs.Index.{IsPointer};
-ghost use Rattle.block_tree.specs.Causes.{HasLookCause, IsLookDamage};
+ghost use Rattle.place_words.specs.Different.{is_among};
+ghost use Rattle.block_tree.specs.Causes.{HasLookCause, IsLookDamage, IfLookDamaged};
 ghost use Rattle.block_tree.specs.Root.{IsRoot};
 ghost use Rattle.block_tree.specs.Tree.{blocks_in};
 ghost use Rattle.inode_file.specs.Loading.{IsWhole};
-ghost use Rattle.place_read.specs.Stored.{tree_with, block_of_place, bytes_at};
+ghost use Rattle.place_read.specs.Stored.{tree_with, block_of_place, indexes_of_place, bytes_at};
 
 use block_format::{Inode, blocks_of};
 use block_tree::{LookFault, TreeRoot, look};
@@ -26,6 +27,7 @@ pub(crate) fn read_stored<D: Disk>(
     requires whole { IsWhole (layout_of g.now) inode.now }
     ensures read { OnOk result (IsTrue D.tells → into.new.bytes ≡ bytes_at (blocks_in (D.state disk.old).contents) (block_of_place (blocks_in (D.state disk.old).contents) inode.now place)) }
     ensures damaged { IsLookDamage (layout_of g.now) D.tells (blocks_in (D.state disk.new).contents) (D.given disk.old) (D.given disk.new) result }
+    ensures among { IfLookDamaged result (λ b. IsTrue D.tells → is_among (indexes_of_place (blocks_in (D.state disk.old).contents) inode.now place) b ≡ true) }
     ensures same { IsTrue D.tells → D.state disk.new ≡ D.state disk.old }
     ensures moments { IsTrue D.tells → Adds (D.past disk.old) (D.past disk.new) (λ s. s ≡ D.state disk.old) }
     ensures fixed { D.fixed disk.new ≡ D.fixed disk.old }
@@ -47,6 +49,7 @@ fn stored_block<D: Disk>(
     ensures found { IfOk result (λ block. IsTrue D.tells → block ≡ block_of_place (blocks_in (D.state disk.old).contents) inode.now place) }
     ensures pointer { IfOk result (IsPointer (layout_of g.now)) }
     ensures damaged { IsLookDamage (layout_of g.now) D.tells (blocks_in (D.state disk.new).contents) (D.given disk.old) (D.given disk.new) result }
+    ensures among { IfLookDamaged result (λ b. IsTrue D.tells → is_among (indexes_of_place (blocks_in (D.state disk.old).contents) inode.now place) b ≡ true) }
     ensures same { IsTrue D.tells → D.state disk.new ≡ D.state disk.old }
     ensures moments { IsTrue D.tells → Adds (D.past disk.old) (D.past disk.new) (λ s. s ≡ D.state disk.old) }
     ensures fixed { D.fixed disk.new ≡ D.fixed disk.old }
@@ -88,6 +91,7 @@ fn read_or_zeros<D: Disk>(
     requires at { IsPointer (layout_of g.now) at }
     ensures read { OnOk result (IsTrue D.tells → into.new.bytes ≡ bytes_at (blocks_in (D.state disk.old).contents) at) }
     ensures damaged { IsLookDamage (layout_of g.now) D.tells (blocks_in (D.state disk.new).contents) (D.given disk.old) (D.given disk.new) result }
+    ensures none { IfLookDamaged result (λ b. ⊥) }
     ensures same { IsTrue D.tells → D.state disk.new ≡ D.state disk.old }
     ensures moments { IsTrue D.tells → Adds (D.past disk.old) (D.past disk.new) (λ s. s ≡ D.state disk.old) }
     ensures fixed { D.fixed disk.new ≡ D.fixed disk.old }

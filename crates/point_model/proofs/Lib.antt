@@ -11,11 +11,12 @@ pub mod KeptPages
 pub mod DirectoriesStand
 mod Assembled
 mod Staged
+pub mod IndexStands
 mod Resting
-mod SlotsFollow
-mod ChangeFollows
-mod StagedNodes
+pub mod SlotsFollow
+pub mod ChangeFollows
+pub mod StagedNodes
 mod AtRest
 mod FreshPoint
-mod BuiltEffects
+pub mod BuiltEffects
 mod SwitchedRoot

@@ -1,5 +1,5 @@
 -- Numbers that are counted among free blocks lie in the area.
-use Rattle.std.proofs.Common.{◌≡◌, ℕ, ◌+◌, ◌<◌, ◌≤◌, Bool, true, cond, List, [], ◌∷◌, ◌++◌, drop, take, inr, ap, arith}
+use Rattle.std.proofs.Common.{◌≡◌, ℕ, ◌+◌, ◌≤◌, Bool, true, cond, List, [], ◌∷◌, drop, take, inr, ap, arith}
 use Rattle.std.specs.Prelude.{All, nat_eq}
 use Rattle.std.proofs.lemmas.Bool.Decides.{nat_tests}
 use Rattle.std.proofs.lemmas.List.{length-drop, length-take}
@@ -7,7 +7,6 @@ use Rattle.std.proofs.lemmas.List.Elements.{All-nil, All-cons}
 use Rattle.vol_numbers.specs.Geometry.{layout_of}
 use Rattle.vol_numbers.specs.Layout.{Layout, area_start}
 use Rattle.block_format.specs.Index.{IsInArea, IsPointer}
-use Rattle.fresh_runs.specs.Fresh.{blocks_in as blocks_told}
 use Rattle.place_words.specs.Different.{is_among, times}
 use Rattle.place_words.proofs.Counting.{times_among}
 use Rattle.point_plan.specs.Free.{free_now}

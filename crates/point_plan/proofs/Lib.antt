@@ -32,3 +32,4 @@ pub mod PlacedLaws
 pub mod ShortLaws
 pub mod PlacedShort
 pub mod SeenLaws
+pub mod SoundLaws

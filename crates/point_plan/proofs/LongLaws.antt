@@ -1,10 +1,9 @@
 -- A plan for which there is room is of a point that isn't short, and one for which there is none of a short point.
-use Rattle.std.proofs.Common.{◌≡◌, ℕ, ◌+◌, ◌-◌, ◌<◌, ◌≤◌, true, false, List, length, sym, ap, ◌∙◌, arith, ⊎_elim}
+use Rattle.std.proofs.Common.{◌≡◌, ℕ, ◌+◌, ◌<◌, ◌≤◌, true, false, List, length, sym, arith, ⊎_elim}
 use Rattle.std.specs.Prelude.{nat_lt}
 use Rattle.std.proofs.lemmas.Bool.Decides.{nat_tests}
 use Rattle.vol_numbers.specs.declared.block.Block.{Block}
-use Rattle.inode_file.specs.Counting.{used_positions}
-use Rattle.point_plan.specs.Gathered.{ArePlannedOver, IsGathered, metadata_given, metadata_had}
+use Rattle.point_plan.specs.Gathered.{ArePlannedOver, IsGathered}
 use Rattle.point_plan.specs.NoRoom.{HasNoRoom}
 use Rattle.point_plan.specs.Planning.{SharesNothing}
 use Rattle.point_plan.specs.PutFrom.{IsPutFrom, room_had, room_needed}

@@ -23,7 +23,7 @@ use Rattle.node_plan.specs.Faults.{HasNodeCause, IsNodeDamage}
 use Rattle.node_plan.specs.Nodes.{rough_need}
 use Rattle.node_plan.specs.declared.fault.NodeFault.{NodeFault}
 use Rattle.node_plan.specs.declared.fault.NodeFault.TheVariants.{ReadFault, Damaged, OutOfMemory, Short}
-use Rattle.node_plan.specs.Pages.{slots_or_none}
+use Rattle.tree_plan.specs.Pages.{slots_or_none}
 use Rattle.place_words.specs.Different.{is_among, times}
 use Rattle.place_words.specs.Rising.{Rising}
 use Rattle.point_model.specs.NodePlan.{AreOfPlaces}
@@ -299,7 +299,7 @@ was_error A {T = T} (Err f) fault other same is = ap Err (sym same ∙ inner is)
 
 damage_earlier : (A B : Type 0) (g : Layout) (tells : Bool) (contents : Blocks) (old middle new : Given) (fault : NodeFault) → old.count ≤ middle.count → IsNodeDamage {T = A} g tells contents middle new (Err fault) → IsNodeDamage {T = B} g tells contents old new (Err fault)
 damage_earlier A B g tells contents old middle new ReadFault le is = tt
-damage_earlier A B g tells contents old middle new (Damaged b) le is = record { number = is.number; rose = omega (arith, le, is.rose); outside = is.outside; stands = is.stands }
+damage_earlier A B g tells contents old middle new (Damaged b) le is = record { number = is.number; rose = omega (arith, le, is.rose); outside = is.outside; pointer = is.pointer; stands = is.stands }
 damage_earlier A B g tells contents old middle new OutOfMemory le is = tt
 damage_earlier A B g tells contents old middle new Short le is = tt
 

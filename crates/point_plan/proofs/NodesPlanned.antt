@@ -23,8 +23,8 @@ use Rattle.image_model.specs.Stands.{Stands, node_of as node_seen}
 use Rattle.image_model.specs.Walk.{is_used}
 use Rattle.image_model.proofs.DirectoryRead.{directories_stand as directory_stands}
 use Rattle.image_model.proofs.HeldLaws.{tree_is_held}
-use Rattle.node_plan.proofs.RisingLaws.{append_among}
-use Rattle.node_plan.proofs.SlotLaws.{width_is}
+use Rattle.tree_plan.proofs.RisingLaws.{append_among}
+use Rattle.tree_plan.proofs.SlotLaws.{width_is}
 use Rattle.node_plan.proofs.UnstagedLaws.{unstaged_is_planned}
 use Rattle.node_table.specs.Held.{info}
 use Rattle.node_table.specs.declared.held.NodeInfo.TheVariants as infos

@@ -1,6 +1,6 @@
 -- What memory has of each number once nothing is staged is what it had of it before.
-use Rattle.std.proofs.Common.{◌≡◌, ℕ, zero, suc, ◌+◌, ◌<◌, ◌≤◌, Bool, true, false, cond, List, [], ◌∷◌, ◌++◌, length, map, Option, Some, None, inl, inr, refl, sym, ap, subst, ◌∙◌, arith, ⊎_elim}
-use Rattle.std.specs.Prelude.{◌==◌, ◌||◌, ◌&&◌, nat_eq, max, All, IsTrue, option_map}
+use Rattle.std.proofs.Common.{◌≡◌, ℕ, zero, suc, ◌+◌, ◌<◌, ◌≤◌, Bool, true, false, cond, List, [], ◌∷◌, ◌++◌, length, map, Option, Some, None, refl, sym, ap, subst, ◌∙◌, arith, ⊎_elim}
+use Rattle.std.specs.Prelude.{◌==◌, ◌||◌, ◌&&◌, nat_eq, max, option_map}
 use Rattle.std.specs.FinMap.{find}
 use Rattle.block_format.specs.declared.inode.Inode.{Inode}
 use Rattle.block_format.specs.declared.inode.Inode.TheVariants.{Unused, File, Directory}
@@ -17,18 +17,16 @@ use Rattle.held_list.specs.Held.{slots_at}
 use Rattle.held_list.specs.declared.held.Held.{Held}
 use Rattle.image_model.specs.Walk.{is_directory}
 use Rattle.inode_file.specs.Inodes.{inode_of}
-use Rattle.node_plan.proofs.RisingLaws.{append_among}
-use Rattle.node_plan.specs.Pages.{slot_with, slots_or_none, width_with}
+use Rattle.tree_plan.proofs.RisingLaws.{append_among}
+use Rattle.tree_plan.specs.Pages.{slot_with, slots_or_none, width_with}
 use Rattle.node_table.specs.Held.{info}
 use Rattle.node_table.specs.declared.held.HeldNode.{HeldNode}
 use Rattle.node_table.specs.declared.held.HeldNode.TheVariants as held
-use Rattle.node_table.specs.declared.held.NodeInfo.{NodeInfo}
-use Rattle.node_table.specs.declared.held.NodeInfo.TheVariants as infos
 use Rattle.place_words.specs.Different.{is_among}
 use Rattle.point_model.specs.Holding.{as_node, slot_or, slots_from, staged_or}
 use Rattle.point_model.specs.PointPlan.{told}
 use Rattle.point_plan.specs.Directories.{left_then, slots_after, slots_then}
-use Rattle.point_plan.specs.Gathered.{AreFromMemory, numbers_in}
+use Rattle.point_plan.specs.Gathered.{AreFromMemory}
 use Rattle.point_plan.specs.Nodes.{inode_or, planned_of}
 use Rattle.point_plan.specs.State.{inode_in, left_in, node_in, size_in, slots_in}
 use Rattle.point_plan.specs.declared.planned_node.PlannedNode.{PlannedNode}

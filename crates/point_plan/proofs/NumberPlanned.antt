@@ -17,7 +17,7 @@ use Rattle.image_model.specs.Seen.{seen}
 use Rattle.image_model.specs.Slots.{slots_of as slots_seen}
 use Rattle.inode_file.specs.Inodes.{inode_of}
 use Rattle.node_plan.specs.Nodes.{IsAtPoint, node_over, slots_over}
-use Rattle.node_plan.specs.Pages.{slots_or_none, slot_with, width_with}
+use Rattle.tree_plan.specs.Pages.{slots_or_none, slot_with, width_with}
 use Rattle.point_model.specs.Holding.{inode_before, staged_or, slots_from, slots_left, as_node, node_now, width_in}
 use Rattle.point_plan.specs.PlanNodes.{AreAtDirty}
 use Rattle.point_plan.specs.State.{HoldsPoint, IsStagedWithin, inode_in, left_in, slots_in, node_in, slots_before, size_in}

@@ -1,5 +1,5 @@
 -- What is put together is a plan over the image that memory is of.
-use Rattle.std.proofs.Common.{◌≡◌, ℕ, zero, suc, ◌+◌, ◌*◌, ◌++◌, true, false, List, length, refl, sym, ap, subst, ◌∙◌}
+use Rattle.std.proofs.Common.{◌≡◌, ℕ, zero, suc, ◌+◌, ◌*◌, ◌++◌, false, List, length, refl, sym, ap, subst, ◌∙◌}
 use Rattle.vol_numbers.specs.Geometry.{layout_of}
 use Rattle.vol_numbers.specs.Layout.{Layout, count_blocks}
 use Rattle.vol_numbers.specs.declared.block.Block.{Block}
@@ -22,7 +22,7 @@ use Rattle.point_plan.specs.Carries.{Carries}
 use Rattle.point_plan.specs.Gathered.{ArePlannedOver, IsGathered}
 use Rattle.point_plan.specs.Planning.{IsNextRoot, IsPlan, IsSettled, SharesNothing}
 use Rattle.point_plan.specs.PutFrom.{IsPutFrom}
-use Rattle.point_plan.specs.PutTogether.{IsPlanSoFar, IsPutTogether, PutTogetherIsPlan, made_plan}
+use Rattle.point_plan.specs.PutTogether.{IsPlanSoFar, IsPutTogether, PutTogetherIsPlan}
 use Rattle.point_plan.specs.Rested.{PointRests, RestsOver}
 use Rattle.point_plan.specs.Room.{GatheredIsCounted}
 use Rattle.point_plan.specs.State.{HoldsPoint, IsOfSize, slots_before}

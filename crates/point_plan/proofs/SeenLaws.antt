@@ -1,6 +1,6 @@
 -- What is seen of an image that carries a plan is what memory has after it.
-use Rattle.std.proofs.Common.{◌≡◌, ℕ, Bool, true, false, cond, List, [], Option, Some, None, refl, sym, ap, subst, ◌∙◌, ⊎_elim}
-use Rattle.std.specs.Prelude.{◌==◌, All, option_map, take}
+use Rattle.std.proofs.Common.{◌≡◌, ℕ, false, cond, List, [], Option, Some, None, refl, sym, ap, ◌∙◌, ⊎_elim}
+use Rattle.std.specs.Prelude.{◌==◌, option_map, take}
 use Rattle.vol_numbers.specs.declared.block.Block.{Block}
 use Rattle.block_format.specs.declared.inode.Inode.{Inode}
 use Rattle.block_format.specs.declared.inode.Inode.TheVariants.{Unused, File, Directory}
@@ -12,8 +12,8 @@ use Rattle.image_model.specs.Seen.{seen}
 use Rattle.image_model.specs.Slots.{slots_of as slots_seen}
 use Rattle.image_model.specs.Walk.{is_directory}
 use Rattle.inode_file.specs.Inodes.{inode_of}
-use Rattle.node_plan.specs.Pages.{slots_or_none}
-use Rattle.node_plan.specs.Renewed.{slots_with}
+use Rattle.tree_plan.specs.Pages.{slots_or_none}
+use Rattle.tree_plan.specs.Renewed.{slots_with}
 use Rattle.node_table.specs.Held.{info}
 use Rattle.place_words.specs.Different.{is_among}
 use Rattle.point_model.specs.Holding.{inode_before, slots_left, slots_now}

@@ -1,32 +1,24 @@
 -- The memory after a plan is within the rules of a volume, and so is what is written.
-use Rattle.std.proofs.Common.{◌≡◌, ℕ, ◌+◌, ◌*◌, ◌<◌, ◌≤◌, Bool, true, false, cond, List, [], ◌∷◌, ◌++◌, length, refl, sym, ap, subst, ◌∙◌, arith}
-use Rattle.std.specs.Prelude.{All, replicate}
+use Rattle.std.proofs.Common.{◌≡◌, ℕ, ◌*◌, ◌≤◌, Bool, true, false, List, length, sym, ap, subst, ◌∙◌}
+use Rattle.std.specs.Prelude.{All}
 use Rattle.std.proofs.lemmas.List.{length-replicate}
 use Rattle.std.proofs.lemmas.List.Elements.{All-nil}
 use Rattle.vol_numbers.specs.Geometry.{layout_of}
-use Rattle.vol_numbers.specs.Layout.{Layout, count_blocks}
-use Rattle.block_format.specs.declared.inode.Inode.{Inode}
-use Rattle.block_format.specs.declared.inode.Inode.TheVariants.{Unused, File, Directory}
-use Rattle.block_format.specs.declared.slot.Slot.{Slot}
-use Rattle.dir_slots.specs.Slots.{IsDirectory}
+use Rattle.vol_numbers.specs.Layout.{count_blocks}
 use Rattle.dirty_store.specs.Overlay.{Overlay, clean}
 use Rattle.dirty_store.specs.Undo.{Store}
 use Rattle.dirty_store.specs.Numbers.{staged_numbers}
 use Rattle.dirty_store.specs.Laws.{dirty_spots}
 use Rattle.inode_file.specs.Loading.{IsWithin}
 use Rattle.volume_model.specs.Places.{has_spot}
-use Rattle.held_list.specs.Held.{slots_at}
-use Rattle.node_table.specs.declared.held.HeldNode.{HeldNode}
-use Rattle.point_model.specs.Holding.{as_node}
-use Rattle.point_plan.specs.Directories.{slots_after, slots_then}
 use Rattle.point_plan.specs.Gathered.{IsGathered}
 use Rattle.point_plan.specs.Planning.{IsPlannedWithin}
 use Rattle.point_plan.specs.PutFrom.{IsPutFrom}
-use Rattle.point_plan.specs.State.{IsOfSize, IsStagedWithin, inode_in, node_in, size_in, slots_in}
+use Rattle.point_plan.specs.State.{IsOfSize, IsStagedWithin}
 use Rattle.point_plan.specs.declared.gathering.Gathered.{Gathered}
 use Rattle.point_plan.specs.declared.planned.Plan.{Plan}
 use Rattle.point_plan.specs.declared.state.PointState.{PointState}
-use Rattle.point_plan.proofs.NowLaws.{directories_now, nodes_now, sizes_now}
+use Rattle.point_plan.proofs.NowLaws.{directories_now, sizes_now}
 
 module _ (blocks : ℕ) (s after : PointState) (g : Gathered) (plan : Plan) (sized : IsOfSize blocks s) (gathered : IsGathered s g) (put : IsPutFrom s after g plan) where
   geometry_is : after.geometry ≡ s.geometry

@@ -26,7 +26,7 @@ use Rattle.image_model.specs.Stands.{layout_in}
 use Rattle.held_list.specs.Held.{slots_at}
 use Rattle.inode_file.specs.Inodes.{inode_of}
 use Rattle.node_plan.specs.Nodes.{left_after, need_of, rough_need}
-use Rattle.node_plan.specs.Pages.{slots_or_none, written_pages}
+use Rattle.tree_plan.specs.Pages.{slots_or_none, written_pages}
 use Rattle.node_table.specs.Held.{info}
 use Rattle.place_words.specs.Different.{different, times, total}
 use Rattle.place_words.specs.Rising.{Rising}

@@ -1,11 +1,9 @@
 -- What a plan writes lies within the disk, and each of its lines is a fresh one.
-use Rattle.std.proofs.Common.{◌≡◌, ℕ, zero, suc, ◌+◌, ◌*◌, ◌/◌, ◌-◌, ◌<◌, ◌≤◌, Bool, true, false, cond, List, [], ◌∷◌, ◌++◌, length, map, refl, sym, ap, subst, ◌∙◌, arith}
+use Rattle.std.proofs.Common.{◌≡◌, ℕ, ◌+◌, ◌/◌, ◌<◌, ◌≤◌, Bool, true, cond, List, [], ◌∷◌, ◌++◌, refl, sym, ap, subst, ◌∙◌, arith}
 use Rattle.std.specs.Prelude.{All}
-use Rattle.vol_numbers.specs.Geometry.{layout_of}
 use Rattle.block_tree.specs.Notes.{page_blocks}
-use Rattle.block_tree.specs.declared.plan.Rewritten.{Rewritten}
 use Rattle.fresh_runs.specs.Fresh.{blocks_in as blocks_told}
-use Rattle.place_words.specs.Different.{is_among, times}
+use Rattle.place_words.specs.Different.{times}
 use Rattle.point_plan.specs.Free.{free_now}
 use Rattle.point_plan.specs.Gathered.{IsGathered, pages_in}
 use Rattle.point_plan.specs.Planning.{IsLineWithin, IsPlanWithin, blocks_written}
@@ -20,7 +18,7 @@ use Rattle.point_plan.proofs.LinesWithin.{lines_within}
 use Rattle.point_plan.proofs.Times.{times_append}
 use Rattle.tree_model.specs.declared.report.Line.{Line}
 use Rattle.volume_model.proofs.LineLaws.{AllFresh, all_fresh}
-use Rattle.volume_model.specs.Lines.{fresh_lines, fresh_only, lines_places}
+use Rattle.volume_model.specs.Lines.{fresh_only, lines_places}
 use Rattle.volume_model.specs.Places.{Spot, has_spot, spots_of}
 use Rattle.volume_model.specs.Point.{fresh_in}
 

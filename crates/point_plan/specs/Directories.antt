@@ -5,8 +5,8 @@ use Rattle.dirty_store.specs.Overlay.{Overlay, node_of, least_cut}
 use Rattle.held_list.specs.Held.{slots_at}
 use Rattle.held_list.specs.declared.held.Held.{Held}
 use Rattle.image_model.specs.Walk.{is_directory}
-use Rattle.node_plan.specs.Pages.{slots_or_none}
-use Rattle.node_plan.specs.Renewed.{slots_with}
+use Rattle.tree_plan.specs.Pages.{slots_or_none}
+use Rattle.tree_plan.specs.Renewed.{slots_with}
 use Rattle.point_plan.specs.declared.planned_node.PlannedNode.{PlannedNode}
 
 -- the slots that a number has left of the last point, none where it was cut to no block since

@@ -9,7 +9,7 @@ use Rattle.block_tree.specs.Tree.{blocks_in}
 use Rattle.held_list.specs.Held.{slots_at}
 use Rattle.inode_file.specs.Inodes.{inode_of}
 use Rattle.node_plan.specs.Nodes.{rough_need}
-use Rattle.node_plan.specs.Pages.{slots_or_none}
+use Rattle.tree_plan.specs.Pages.{slots_or_none}
 use Rattle.node_table.specs.Held.{info}
 use Rattle.point_model.specs.NodePlan.{AreOfPlaces, node_metas}
 use Rattle.point_model.specs.PointPlan.{LiveStays, NodeIsPlanned, told}

@@ -19,7 +19,7 @@ use Rattle.image_model.specs.Slots.{slots_of as slots_seen}
 use Rattle.image_model.specs.Stands.{Stands}
 use Rattle.inode_file.specs.Inodes.{IsTable, Stands as InodesStand, inode_of}
 use Rattle.inode_file.specs.Loading.{IsWithin}
-use Rattle.node_plan.specs.Pages.{slots_or_none, slot_with, width_with}
+use Rattle.tree_plan.specs.Pages.{slots_or_none, slot_with, width_with}
 use Rattle.node_table.specs.declared.held.HeldNode.{HeldNode}
 use Rattle.point_model.specs.Holding.{HoldsMachine, inode_before, staged_or, slots_from, as_node}
 use Rattle.point_plan.specs.declared.state.PointState.{PointState}

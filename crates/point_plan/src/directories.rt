@@ -12,8 +12,8 @@ use block_format::Inode;
 use dir_slots::Directory;
 use dirty_store::DirtyStore;
 use held_list::HeldList;
-use node_plan::renewed_directory;
 use std::alloc::{AllocError, Global};
+use tree_plan::renewed_directory;
 use vol_numbers::InoNo;
 
 /// Builds each planned directory anew. Nothing is changed.

@@ -52,6 +52,8 @@ pub(crate) fn gather<D: Disk>(
     ensures over { IfOk result (λ g. IsTrue D.tells → (r : Rules) (m : Machine) → SharesNothing r → HoldsPoint r m (D.state disk.old).contents state.now → ArePlannedOver r m (D.state disk.old).contents state.now g) }
     ensures short { (free : ℕ) → IsErrOf result (Short free) → IsTrue D.tells → (r : Rules) (m : Machine) → SharesNothing r → HoldsPoint r m (D.state disk.old).contents state.now → (is_short m ≡ true) × (free ≡ free_of m) }
     ensures damaged { (b : ℕ) → IsErrOf result (Damaged b) → IsDamage (layout_of state.now.geometry) D.tells (blocks_in (D.state disk.old).contents) (D.given disk.old) (D.given disk.new) b }
+    // Over contents that hold a machine no block is damaged.
+    ensures sound { (b : ℕ) → IsErrOf result (Damaged b) → IsTrue D.tells → (r : Rules) (m : Machine) → HoldsPoint r m (D.state disk.old).contents state.now → ⊥ }
     ensures same { IsTrue D.tells → D.state disk.new ≡ D.state disk.old }
     ensures moments { IsTrue D.tells → Adds (D.past disk.old) (D.past disk.new) (λ s. s ≡ D.state disk.old) }
     ensures fixed { D.fixed disk.new ≡ D.fixed disk.old }
@@ -81,6 +83,8 @@ fn with_nodes<D: Disk>(
     ensures over { IfOk result (λ g. IsTrue D.tells → (r : Rules) (m : Machine) → SharesNothing r → HoldsPoint r m (D.state disk.old).contents state.now → ArePlannedOver r m (D.state disk.old).contents state.now g) }
     ensures short { (free : ℕ) → IsErrOf result (Short free) → IsTrue D.tells → (r : Rules) (m : Machine) → SharesNothing r → HoldsPoint r m (D.state disk.old).contents state.now → (is_short m ≡ true) × (free ≡ free_of m) }
     ensures damaged { (b : ℕ) → IsErrOf result (Damaged b) → IsDamage (layout_of state.now.geometry) D.tells (blocks_in (D.state disk.old).contents) (D.given disk.old) (D.given disk.new) b }
+    // Over contents that hold a machine no block is damaged.
+    ensures sound { (b : ℕ) → IsErrOf result (Damaged b) → IsTrue D.tells → (r : Rules) (m : Machine) → HoldsPoint r m (D.state disk.old).contents state.now → ⊥ }
     ensures same { IsTrue D.tells → D.state disk.new ≡ D.state disk.old }
     ensures moments { IsTrue D.tells → Adds (D.past disk.old) (D.past disk.new) (λ s. s ≡ D.state disk.old) }
     ensures fixed { D.fixed disk.new ≡ D.fixed disk.old }

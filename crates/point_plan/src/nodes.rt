@@ -16,8 +16,8 @@ ghost use Rattle.inode_file.specs.Inodes.{inode_of};
 ghost use Rattle.inode_file.specs.Loading.{IsWhole};
 ghost use Rattle.node_plan.specs.Faults.{HasNodeCause, IsNodeDamage};
 ghost use Rattle.node_plan.specs.Nodes.{rough_need};
-ghost use Rattle.node_plan.specs.Pages.{slots_or_none};
-ghost use Rattle.node_plan.specs.declared.fault.NodeFault.TheVariants.{Short};
+ghost use Rattle.tree_plan.specs.Pages.{slots_or_none};
+ghost use Rattle.node_plan.specs.declared.fault.NodeFault.TheVariants.{Damaged, Short};
 ghost use Rattle.node_table.specs.Held.{info};
 ghost use Rattle.place_words.specs.Different.{times};
 ghost use Rattle.point_model.specs.NodePlan.{node_metas};
@@ -79,6 +79,8 @@ pub(crate) fn plan_nodes<D: Disk>(
     ensures short { IsErrOf result Short → StopsShort D.tells (D.state disk.old).contents state.now numbers.now changes.now free.old }
     ensures left { OnErr result ((taken : List ℕ) × (taken ++ free.new ≡ free.old)) }
     ensures damaged { IsNodeDamage (layout_of state.now.geometry) D.tells (blocks_in (D.state disk.new).contents) (D.given disk.old) (D.given disk.new) result }
+    // Over contents that hold a machine no block is damaged.
+    ensures sound { (b : ℕ) → IsErrOf result (Damaged b) → IsTrue D.tells → (r : Rules) (m : Machine) → HoldsPoint r m (D.state disk.old).contents state.now → ⊥ }
     ensures same { IsTrue D.tells → D.state disk.new ≡ D.state disk.old }
     ensures moments { IsTrue D.tells → Adds (D.past disk.old) (D.past disk.new) (λ s. s ≡ D.state disk.old) }
     ensures fixed { D.fixed disk.new ≡ D.fixed disk.old }
@@ -113,6 +115,8 @@ fn plan_number<D: Disk>(
     ensures short { IsErrOf result Short → length free.old < rough_need state.now.dirty.overlay number (inode_of state.now.inodes.inodes number) (slots_or_none (slots_at state.now.directories number)) changes.now }
     ensures unchanged { OnErr result (free.new ≡ free.old) }
     ensures damaged { IsNodeDamage (layout_of state.now.geometry) D.tells (blocks_in (D.state disk.new).contents) (D.given disk.old) (D.given disk.new) result }
+    // Over contents that hold a machine no block is damaged.
+    ensures sound { (b : ℕ) → IsErrOf result (Damaged b) → IsTrue D.tells → (r : Rules) (m : Machine) → HoldsPoint r m (D.state disk.old).contents state.now → ⊥ }
     ensures same { IsTrue D.tells → D.state disk.new ≡ D.state disk.old }
     ensures moments { IsTrue D.tells → Adds (D.past disk.old) (D.past disk.new) (λ s. s ≡ D.state disk.old) }
     ensures fixed { D.fixed disk.new ≡ D.fixed disk.old }

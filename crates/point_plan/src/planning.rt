@@ -48,6 +48,8 @@ pub fn plan<D: Disk>(alloc: Global, disk: &mut D, state: &mut PointState) -> Res
     ensures unchanged { OnErr result (state.new ≡ state.old) }
     ensures short { (free : ℕ) → IsErrOf result (Short free) → IsTrue D.tells → (r : Rules) (m : Machine) → SharesNothing r → HoldsPoint r m (D.state disk.old).contents state.old → (is_short m ≡ true) × (free ≡ free_of m) }
     ensures damaged { (b : ℕ) → IsErrOf result (Damaged b) → IsDamage (layout_of state.old.geometry) D.tells (blocks_in (D.state disk.old).contents) (D.given disk.old) (D.given disk.new) b }
+    // Over a disk that tells its contents no block is damaged, since these hold a machine.
+    ensures sound { (b : ℕ) → IsErrOf result (Damaged b) → IsTrue D.tells → ⊥ }
     ensures same { IsTrue D.tells → D.state disk.new ≡ D.state disk.old }
     ensures moments { IsTrue D.tells → Adds (D.past disk.old) (D.past disk.new) (λ s. s ≡ D.state disk.old) }
     ensures fixed { D.fixed disk.new ≡ D.fixed disk.old }

@@ -10,8 +10,8 @@ use Rattle.block_format.specs.declared.inode.Inode.TheVariants.{Unused, File, Di
 use Rattle.block_tree.specs.Edit.{leaves_of}
 use Rattle.dir_slots.specs.Pages.{pages_for}
 use Rattle.dirty_store.specs.Overlay.{Overlay}
-use Rattle.node_plan.specs.Pages.{is_written, written_pages, width_with}
-use Rattle.node_plan.proofs.SlotLaws.{width_is}
+use Rattle.tree_plan.specs.Pages.{is_written, written_pages, width_with}
+use Rattle.tree_plan.proofs.SlotLaws.{width_is}
 use Rattle.node_table.specs.Held.{info}
 use Rattle.node_table.specs.declared.held.NodeInfo.TheVariants as infos
 use Rattle.place_words.specs.Different.{different, is_among, span, up}

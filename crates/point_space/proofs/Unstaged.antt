@@ -15,7 +15,7 @@ use Rattle.dirty_store.proofs.Places.{equal_of}
 use Rattle.image_model.specs.Seen.{seen}
 use Rattle.image_model.specs.Slots.{slots_of as slots_seen}
 use Rattle.image_model.proofs.StandingTree.{standing_tree}
-use Rattle.node_plan.proofs.RisingLaws.{append_among}
+use Rattle.tree_plan.proofs.RisingLaws.{append_among}
 use Rattle.node_plan.proofs.UnstagedLaws.{unstaged_is_planned}
 use Rattle.node_table.specs.Held.{info}
 use Rattle.place_words.specs.Different.{is_among, total}

@@ -12,7 +12,7 @@ use Rattle.image_model.specs.Live.{IsLive}
 use Rattle.image_model.specs.Stands.{Stands}
 use Rattle.inode_file.specs.Counting.{used_positions}
 use Rattle.inode_file.specs.Inodes.{inode_of}
-use Rattle.node_plan.specs.Pages.{written_pages}
+use Rattle.tree_plan.specs.Pages.{written_pages}
 use Rattle.node_table.specs.Held.{info}
 use Rattle.place_words.specs.Different.{different, is_among, total, Distinct}
 use Rattle.place_words.specs.Rising.{Rising}

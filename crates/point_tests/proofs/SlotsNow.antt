@@ -10,10 +10,10 @@ use Rattle.block_format.specs.declared.slot.Slot.{Slot}
 use Rattle.block_format.specs.declared.slot.Slot.TheVariants.{Unused, Entry}
 use Rattle.dir_slots.specs.Slots.{IsDirectory, is_used, name_of, slot_at, slot_of}
 use Rattle.dirty_store.specs.Overlay.{Overlay, width_of}
-use Rattle.node_plan.specs.Pages.{slot_with, width_with}
-use Rattle.node_plan.specs.Renewed.{slots_with}
-use Rattle.node_plan.proofs.RenewedLaws.{width_with_is, with_at}
-use Rattle.node_plan.proofs.SlotLaws.{lt_false, lt_true, none_past}
+use Rattle.tree_plan.specs.Pages.{slot_with, width_with}
+use Rattle.tree_plan.specs.Renewed.{slots_with}
+use Rattle.tree_plan.proofs.RenewedLaws.{width_with_is, with_at}
+use Rattle.tree_plan.proofs.SlotLaws.{lt_false, lt_true, none_past}
 use Rattle.point_model.specs.Holding.{slot_or}
 use Rattle.volume_model.specs.Places.{spot_cmp}
 use Rattle.point_tests.specs.Within.{IsEntryWithin, IsSlotWithin}

@@ -21,7 +21,7 @@ use Rattle.dirty_store.proofs.Places.{equal_of}
 use Rattle.held_list.specs.Held.{slots_at}
 use Rattle.held_list.specs.declared.held.Held.{Held}
 use Rattle.inode_file.specs.Inodes.{IsTable, inode_of}
-use Rattle.node_plan.specs.Pages.{slots_or_none}
+use Rattle.tree_plan.specs.Pages.{slots_or_none}
 use Rattle.place_words.specs.Different.{is_among, span}
 use Rattle.point_model.specs.Holding.{staged_or}
 use Rattle.point_plan.specs.State.{IsStagedWithin, inode_in, left_in, size_in, slots_in}

@@ -4,8 +4,8 @@ ghost use Rattle.std.specs.FinMap.{find};
 ghost use Rattle.std.specs.Option.{option_copied};
 ghost use Rattle.block_format.specs.declared.slot.Slot.{Slot as SlotOf};
 ghost use Rattle.dir_slots.specs.Slots.{IsDirectory, is_used, name_of, slot_of};
-ghost use Rattle.node_plan.specs.Pages.{slots_or_none};
-ghost use Rattle.node_plan.specs.Renewed.{slots_with};
+ghost use Rattle.tree_plan.specs.Pages.{slots_or_none};
+ghost use Rattle.tree_plan.specs.Renewed.{slots_with};
 ghost use Rattle.volume_model.specs.Places.{spot_cmp};
 ghost use Rattle.point_tests.specs.Within.{IsEntryWithin, IsSlotWithin};
 

@@ -43,6 +43,7 @@ pub fn read_current<D: Disk>(disk: &mut D) -> Result<Current, RootFault>
     ensures slot { IfOk result (λ c. c.slot < 2) }
     ensures grammar { IfOk result (λ c. HasGeometry (root_of c.body)) }
     ensures size { IfOk result (λ c. (root_of c.body).layout.blocks ≡ (D.fixed disk.old).size) }
+    ensures reads { IfOk result (λ c. (D.given disk.new).count ≤ (D.given disk.old).count + 2) }
 
     ensures same { IsTrue D.tells → D.state disk.new ≡ D.state disk.old }
     ensures moments { IsTrue D.tells → Adds (D.past disk.old) (D.past disk.new) (λ s. s ≡ D.state disk.old) }
@@ -67,6 +68,7 @@ fn named_slot<D: Disk>(disk: &mut D) -> Result<u32, DiskFault>
     requires { 3 ≤ (D.fixed disk.old).size }
     ensures slot { IfOk result (λ slot. slot < 2) }
     ensures current { IfOk result (λ slot. IsTrue D.tells → slot ≡ current_slot (D.state disk.old).contents) }
+    ensures reads { IfOk result (λ slot. (D.given disk.new).count ≤ (D.given disk.old).count + 1) }
     ensures same { IsTrue D.tells → D.state disk.new ≡ D.state disk.old }
     ensures moments { IsTrue D.tells → Adds (D.past disk.old) (D.past disk.new) (λ s. s ≡ D.state disk.old) }
     ensures fixed { D.fixed disk.new ≡ D.fixed disk.old }
@@ -84,6 +86,7 @@ fn read_slot<D: Disk>(disk: &mut D, slot: u32) -> Result<RootBody, RootFault>
     ensures spelled { IfOk result (λ body. IsTrue D.tells → IfSome (slice_get (D.state disk.old).contents (1 + slot)) (λ block. SpellsRoot body block)) }
     ensures fields { IfOk result (λ body. IsTrue D.tells → IfSome (slice_get (D.state disk.old).contents (1 + slot)) (λ block. root_of body ≡ root_in block.bytes)) }
     ensures grammar { IfOk result (λ body. HasGeometry (root_of body)) }
+    ensures reads { IfOk result (λ body. (D.given disk.new).count ≤ (D.given disk.old).count + 1) }
     ensures no_root { IsErrOf result NoRoot → IsTrue D.tells → IfSome (slice_get (D.state disk.old).contents (1 + slot)) (λ block. HasShape block.bytes → ⊥) }
     ensures bad_geometry { IsErrOf result BadGeometry → IsTrue D.tells → IfSome (slice_get (D.state disk.old).contents (1 + slot)) (λ block. HasShape block.bytes × (HasGeometry (root_in block.bytes) → ⊥)) }
     ensures device { IsErrOf result Device → D.faults disk.new ≡ raised (D.faults disk.old) }

@@ -11,7 +11,7 @@ use Rattle.dirty_store.specs.Overlay.{node_of, least_cut}
 use Rattle.disk_model.specs.Disk.{State}
 use Rattle.image_model.specs.Seen.{seen}
 use Rattle.image_model.specs.Slots.{slots_of as slots_seen}
-use Rattle.node_plan.specs.Pages.{slots_or_none, slot_with, width_with}
+use Rattle.tree_plan.specs.Pages.{slots_or_none, slot_with, width_with}
 use Rattle.node_table.specs.Held.{HoldsNodes}
 use Rattle.place_read.specs.Holding.{HoldsFiles}
 use Rattle.point_model.specs.Holding.{inode_before, node_now, slots_left, staged_or, slots_from, as_node, width_in}
@@ -59,7 +59,7 @@ module _ (r : Rules) (m : Machine) (s : State) (v : Memory) (is : IsIn r m s v) 
   is_at_rest = record { synced = is.holds.synced; stands = at_point.stands }
 
   pub holds_files : HoldsFiles r m s.contents v.state.inodes v.state.dirty.overlay
-  holds_files = record { stands = at_point.stands; coherent = at_point.coherent; staged = at_point.staged; nodes = at_point.nodes }
+  holds_files = record { records = m.records; stands = at_point.stands; coherent = at_point.coherent; staged = at_point.staged; nodes = at_point.nodes }
 
   pub has_current : HasCurrent v.state.current.slot (root_of v.state.current.body) s
   has_current = record { all_synced = is.holds.synced; slot_is = sym at_point.slot; root_is = sym at_point.root; has = at_point.stands.root; fits = at_point.stands.fits }

@@ -3,6 +3,8 @@ use Rattle.disk_model.specs.Disk.{State}
 use Rattle.disk_model.proofs.Moments.{adds_read}
 use Rattle.block_tree.specs.Tree.{blocks_in, index_at, nonzero}
 use Rattle.block_tree.specs.Parts.{SameEntries}
+use Rattle.block_tree.specs.Causes.{IsBlockOf, IsBlockAmong}
+use Rattle.block_tree.proofs.DamageLaws.{look_passed}
 use Rattle.block_tree.proofs.ListingLaws.{leaves_more}
 use Rattle.block_tree.proofs.listing.push_leaves.Goals as goal
 
@@ -23,3 +25,9 @@ loop-i-preserved g c =
       given = omega (arith, c.in_ok-index.ensures.damaged, inv.given);
       faults = c.in_ok-index.ensures.cause ∙ inv.faults;
     }
+
+pub returns-in_err-index-clause-read : goal.returns-in_err-index-clause-read
+returns-in_err-index-clause-read g c =
+    let leaf : ℕ = get_or c.args.tops.now.ptrs c.loop-i.i 0 in
+    look_passed c.from_residual.result c.in_err-index.field-0.0 (IsBlockOf leaf) (IsBlockAmong 0 c.args.tops.now.ptrs) c.from_residual.ensures.1 c.in_err-index.ensures.read
+    (λ b of. record { at = c.loop-i.i; from = omega arith; below = omega arith; block = of })

@@ -1,11 +1,13 @@
 use Rattle.std.proofs.Common.{◌≡◌, ◌∙◌, ap, sym, subst, List, ℕ, arith}
 use Rattle.block_format.specs.Words.{words}
-use Rattle.block_format.specs.Index.{SpellsIndex}
+use Rattle.std.specs.Prelude.{All, take}
+use Rattle.block_format.specs.Index.{IsPointer, SpellsIndex}
 use Rattle.disk_model.specs.Disk.{State}
 use Rattle.vol_numbers.specs.declared.block.Block.{Block}
 use Rattle.vol_numbers.specs.Geometry.{layout_of}
 use Rattle.block_tree.specs.Parts.{SameEntries}
 use Rattle.block_tree.specs.Tree.{index_at, blocks_in}
+use Rattle.block_tree.proofs.DamageLaws.{index_of_counts}
 use Rattle.block_tree.proofs.EntryLaws.{same_hole, same_refl, nonzero_zeros, zeros_are_pointers, block_read, index_there}
 use Rattle.block_tree.proofs.looking.entries.Goals as goal
 
@@ -35,6 +37,8 @@ returns-in-None-clause-damaged g c =
       number = given.number;
       rose = omega (arith, given.counted);
       outside = λ ptrs spells. c.in-None.ensures.none ptrs (subst (λ (b : Block). SpellsIndex (layout_of c.args.g.now) ptrs b.bytes) given.bytes spells);
+      pointer = λ all. c.in-None.ensures.none (words c.read_block.new.into.bytes)
+          (index_of_counts (layout_of c.args.g.now) c.read_block.new.into.bytes c.counts_of_block.ensures (subst (λ (b : Block). All (IsPointer (layout_of c.args.g.now)) (take 1024 (words b.bytes))) given.bytes all));
       stands = λ tells.
           ap (λ (s : State). blocks_in s.contents c.args.at) (c.in_default.ensures.same tells)
           ∙ (block_read (g.D.Disk.state c.args.disk.now).contents c.args.at c.read_block.new.into (c.in_default.ensures.read tells) ∙ ap (λ (b : Block). b.bytes) (sym given.bytes));

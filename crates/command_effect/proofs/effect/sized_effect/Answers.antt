@@ -5,6 +5,7 @@ use Rattle.point_model.specs.Staging.{IsEffectOn}
 use Rattle.tree_model.specs.Path.{Path}
 use Rattle.tree_model.specs.declared.command.Command.{Command}
 use Rattle.tree_model.specs.declared.command.Command.TheVariants.{Write, Truncate}
+use Rattle.block_tree.proofs.DamageLaws.{damage_like}
 use Rattle.command_effect.specs.Blocks.{AreFrom, cut_count}
 use Rattle.command_effect.specs.Effects.{CanDo}
 use Rattle.command_effect.proofs.BlockLaws.{are_also}
@@ -65,3 +66,11 @@ returns-in_ok-touched-in-Truncate-clause-on g c tells r m holds nodes =
     subst (λ (x : Command). IsEffectOn m x c.sized-in-Truncate.result) (sym command)
     (truncate_on m h path c.args.number file.0 file.1 size c.sized-in-Truncate.result c.requires.largest c.sized-in-Truncate.ensures.sized.number_is (c.sized-in-Truncate.ensures.sized.cut_is ∙ ap (λ (n : ℕ). Some n) blocks) are
     (ap length items ∙ done.many ∙ ap (λ (n : ℕ). cut_count n size) (sym file.2)))
+
+pub returns-in_err-touched-in-Write-clause-sound : goal.returns-in_err-touched-in-Write-clause-sound
+returns-in_err-touched-in-Write-clause-sound g c tells r m holds layout =
+    damage_like c.from_residual.result c.in_err-touched-in-Write.field-0.0 (λ b. ⊥) (λ b. ⊥) c.from_residual.ensures.1 (c.in_err-touched-in-Write.ensures.sound tells r m holds layout) (λ b is. is)
+
+pub returns-in_err-touched-in-Truncate-clause-sound : goal.returns-in_err-touched-in-Truncate-clause-sound
+returns-in_err-touched-in-Truncate-clause-sound g c tells r m holds layout =
+    damage_like c.from_residual-in_err-touched-in-Truncate.result c.in_err-touched-in-Truncate.field-0.0 (λ b. ⊥) (λ b. ⊥) c.from_residual-in_err-touched-in-Truncate.ensures.1 (c.in_err-touched-in-Truncate.ensures.sound tells r m holds layout) (λ b is. is)

@@ -2,6 +2,7 @@ use Rattle.std.proofs.Common.{◌≡◌, ◌≤◌, ◌/◌, ◌∷◌, [], ◌+
 use Rattle.disk_model.specs.Disk.{State}
 use Rattle.disk_model.proofs.Moments.{adds_read}
 use Rattle.dirty_store.specs.declared.effect.Touched.{Touched}
+use Rattle.block_tree.proofs.DamageLaws.{look_passed}
 use Rattle.place_read.specs.Holding.{HoldsFiles}
 use Rattle.command_effect.specs.Blocks.{AreFrom, IsWrittenBlock}
 use Rattle.command_effect.proofs.BlockLaws.{are_pushed}
@@ -29,3 +30,8 @@ loop-place-preserved g c =
       given = omega (arith, c.in_ok-block.ensures.damaged, inv.given);
       faults = c.in_ok-block.ensures.cause ∙ inv.faults;
     }
+
+pub returns-in_err-block-clause-sound : goal.returns-in_err-block-clause-sound
+returns-in_err-block-clause-sound g c tells r m holds layout =
+    let now = subst (λ (s : State). HoldsFiles r m s.contents c.args.inodes.now c.args.dirty.now.overlay) (sym (c.loop-place.invariant.same tells)) holds in
+    look_passed c.from_residual.result c.in_err-block.field-0.0 (λ b. ⊥) (λ b. ⊥) c.from_residual.ensures.1 (c.in_err-block.ensures.sound tells r m now layout) (λ b is. is)

@@ -1,5 +1,6 @@
 use Rattle.std.proofs.Common.{◌≡◌, ◌+◌, ◌*◌, ◌∙◌, ap, sym, subst, arith, ℕ, List, length}
 use Rattle.std.specs.Prelude.{max, min}
+use Rattle.command_effect.proofs.SoundLaws.{none_like}
 use Rattle.command_effect.specs.Blocks.{IsLaidOver}
 use Rattle.command_effect.proofs.BlockLaws.{is_laid, out_length}
 use Rattle.command_effect.proofs.writing.written_block.Goals as goal
@@ -20,3 +21,7 @@ returns-clause-is g c =
           (is_laid given offset place _ c.max-from.result c.min-to.result c.requires.begins c.requires.reaches start_is from_is to_is c.in_ok-block.block.bytes c.in_ok-block.ensures.whole (block_at m.tree (c.args.number, place))
           (λ partly. c.in_ok-block.ensures.read partly tells r m holds));
     }
+
+pub returns-in_err-block-clause-sound : goal.returns-in_err-block-clause-sound
+returns-in_err-block-clause-sound g c tells r m holds layout =
+    none_like c.from_residual.result c.in_err-block.field-0.0 c.from_residual.ensures.1 (c.in_err-block.ensures.sound tells r m holds layout)

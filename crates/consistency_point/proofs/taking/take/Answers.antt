@@ -33,6 +33,9 @@ returns-in_err-plan-clause-short g c free is tells r m held =
 pub returns-in_err-plan-clause-damaged : goal.returns-in_err-plan-clause-damaged
 returns-in_err-plan-clause-damaged g c b is = c.in_err-plan.ensures.damaged b (ap Err (damaged_of c.from_residual.result c.in_err-plan.field-0.0 c.from_residual.ensures.1 b is))
 
+pub returns-in_err-plan-clause-sound : goal.returns-in_err-plan-clause-sound
+returns-in_err-plan-clause-sound g c b is tells = c.in_err-plan.ensures.sound b (ap Err (damaged_of c.from_residual.result c.in_err-plan.field-0.0 c.from_residual.ensures.1 b is)) tells
+
 pub carry_out-requires-clause-held : goal.carry_out-requires-clause-held
 carry_out-requires-clause-held g c tells =
     let some = c.requires.held tells in

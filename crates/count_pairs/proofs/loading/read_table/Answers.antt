@@ -19,6 +19,7 @@ loop-i-preserved g c =
       long = ap length c.in_ok-extend_from_slice.ensures.items ∙ (length-append c.loop-i.counts.items block ∙ omega (arith, inv.long, full));
       given = λ _. rw c.in_ok-extend_from_slice.ensures.items
           (given_more _ c.args.body.now.homes.bytes c.loop-i.counts.items block c.loop-i.i inv.long full c.in_ok-block.ensures.at c.in_ok-block.ensures.given);
+      reads = omega (arith, c.in_ok-block.ensures.reads, inv.reads);
       same = λ tells. c.in_ok-block.ensures.same tells ∙ inv.same tells;
       moments = λ tells. adds_read (inv.moments tells) (inv.same tells) c.in_ok-block.ensures.moments;
       fixed = c.in_ok-block.ensures.fixed ∙ inv.fixed;

@@ -1,5 +1,5 @@
 use Rattle.std.proofs.Common.{◌∙◌, length, sym, ap, arith}
-use Rattle.fs_check.proofs.LogLaws.{verdict_err, is_early, few_nodes}
+use Rattle.fs_check.proofs.LogLaws.{verdict_err, is_early, metadata_is, few_nodes}
 use Rattle.fs_check.proofs.examining.with_log.Goals as goal
 
 pub returns-in_err-records-clause-verdict : goal.returns-in_err-records-clause-verdict
@@ -26,7 +26,9 @@ returns-clause-verdict g c tells none slot looked =
       kept = looked.kept;
       directories = looked.directories;
       nodes = stands.holds _ c.in_ok-records.ensures.trees;
+      inodes = looked.nodes;
       used = c.len-used.ensures ∙ ap length (sym looked.nodes);
       records = stands.records_are;
       free = stands.free_is;
+      metadata = metadata_is image c.args.current.now.body l stands.stored (c.requires.root tells) looked stands.stands;
     }

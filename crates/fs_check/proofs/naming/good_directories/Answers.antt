@@ -1,4 +1,4 @@
-use Rattle.std.proofs.Common.{◌∙◌, List, ℕ, map, arith, ap, sym, subst}
+use Rattle.std.proofs.Common.{◌∙◌, List, ℕ, length, map, arith, ap, sym, subst}
 use Rattle.place_words.specs.Rising.{Rising}
 use Rattle.place_words.proofs.Rising.{rising_less}
 use Rattle.block_format.specs.declared.inode.Inode.{Inode}
@@ -10,6 +10,7 @@ use Rattle.name_check.specs.Seeing.{HaveSlots, directory_numbers}
 use Rattle.fs_check.specs.Faults.{of_names}
 use Rattle.fs_check.proofs.CauseLaws.{cause_err, name_cause}
 use Rattle.fs_check.proofs.PhaseLaws.{phase_err, directory_by}
+use Rattle.image_walk.specs.declared.node_block.NodeBlock.{NodeBlock}
 use Rattle.fs_check.proofs.naming.good_directories.Goals as goal
 
 pub directories-requires-clause-nodes : goal.directories-requires-clause-nodes
@@ -49,3 +50,6 @@ returns-clause-are g c = record {
 
 pub directories-requires-clause-widths : goal.directories-requires-clause-widths
 directories-requires-clause-widths g c = subst HaveWidths (sym c.as_slice.ensures) c.requires.widths
+
+pub returns-clause-reads : goal.returns-clause-reads
+returns-clause-reads g c = omega (arith, c.in_ok-held.ensures.reads, ap (λ (pages : List NodeBlock). length pages) c.as_slice-2.ensures)

@@ -11,6 +11,7 @@ use Rattle.image_walk.proofs.GoingLaws.{walks_err, part_start, part_next, part_e
 use Rattle.image_walk.proofs.InodeLaws.{blocks_next, gathered_none, gathered_next, gathered_all}
 use Rattle.image_walk.specs.Order.{NodesGrow}
 use Rattle.image_walk.proofs.OrderLaws.{nodes_none, nodes_then}
+use Rattle.image_walk.proofs.ReadsLaws.{pointers_next}
 use Rattle.image_walk.proofs.inodes.walk_inodes.Goals as goal
 
 pub loop-k-init : goal.loop-k-init
@@ -18,6 +19,7 @@ loop-k-init g c = record {
   part = λ tells marks. part_start _ _ _;
   gathered = λ tells. gathered_none _ _ _;
   grows = nodes_none _ _ _;
+  reads = omega arith;
   same = λ tells. refl;
   moments = λ tells. adds_none _ _;
   fixed = refl;
@@ -52,6 +54,7 @@ loop-k-preserved g c =
           (subst (λ (s : State). c.walk_block.new.nodes.items ≡ c.loop-k.nodes.items ++ nodes_of (inodes_at (blocks_in s.contents) (64 * k) (get_or es k 0))) (inv.same tells) (c.in_ok-walk_block.ensures.nodes tells));
       grows = nodes_then 0 (64 * k) (64 * (k + 1)) _ _ _ (omega arith) (omega arith) inv.grows
           (subst (λ (high : ℕ). NodesGrow (64 * k) high c.loop-k.nodes.items c.walk_block.new.nodes.items) (omega arith) c.in_ok-walk_block.ensures.grows);
+      reads = omega (arith, inv.reads, c.in_ok-walk_block.ensures.reads, pointers_next es k (omega arith));
       same = λ tells. c.in_ok-walk_block.ensures.same tells ∙ inv.same tells;
       moments = λ tells. adds_read (inv.moments tells) (inv.same tells) (c.in_ok-walk_block.ensures.moments tells);
       fixed = c.in_ok-walk_block.ensures.fixed ∙ inv.fixed;

@@ -5,6 +5,7 @@ use Rattle.image_model.specs.Met.{index}
 use Rattle.image_model.specs.Walk.{met_at, tops_met}
 use Rattle.image_walk.proofs.GoingLaws.{walks_err, part_ends, part_next}
 use Rattle.image_walk.proofs.NodeLaws.{tops_next}
+use Rattle.image_walk.proofs.ReadsLaws.{tops_counted}
 use Rattle.image_walk.proofs.trees.meet_tops.Goals as goal
 
 pub returns-in_err-meet_index-clause-walked : goal.returns-in_err-meet_index-clause-walked
@@ -23,5 +24,6 @@ loop-k-preserved c =
       part = part_next (layout_of c.args.g.now) c.args.marks.now c.loop-k.marks c.meet_index.new.marks _ _ (met_at index (nat_lt (1024 * k) c.args.blocks) (get_or tops k 0)) (tops_met c.args.blocks (1024 * (k + 1)) (drop (k + 1) tops))
           c.loop-k.invariant.part (tops_next c.args.blocks k tops (omega arith)) c.in_ok-meet_index.ensures.walked;
       long = c.in_ok-meet_index.ensures.walked.long ∙ c.loop-k.invariant.long;
+      counted = tops_counted c.args.blocks k tops (omega arith) c.loop-k.invariant.counted c.in_ok-meet_index.ensures.counted;
       within = below_more _ _ c.loop-k.invariant.within c.in_ok-meet_index.ensures.within;
     }

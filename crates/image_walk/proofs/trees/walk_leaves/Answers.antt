@@ -11,6 +11,7 @@ use Rattle.image_walk.specs.Trees.{owner_met, Passes}
 use Rattle.image_walk.proofs.TreeLaws.{passes_err, stretch_start, stretch_ends, owner_next}
 use Rattle.image_walk.proofs.NodeLaws.{leaves_next}
 use Rattle.image_walk.proofs.OrderLaws.{keeps_none, keeps_then}
+use Rattle.image_walk.proofs.ReadsLaws.{pointers_next}
 use Rattle.image_walk.proofs.trees.walk_leaves.Goals as goal
 
 pub returns-in_err-walk_leaf-clause-walked : goal.returns-in_err-walk_leaf-clause-walked
@@ -40,6 +41,7 @@ loop-k-preserved g c =
           (subst (λ (s : State). let one : List Met = leaf_met (blocks_in s.contents) (owner_met o) o.blocks (1024 * k) (get_or tops k 0) in Passes lay c.loop-k.reached c.walk_leaf.new.reached one (lasts_of o.blocks one)) (inv.same tells) (c.in_ok-walk_leaf.ensures.walked tells));
       keeps = keeps_then _ _ _ _ _ inv.keeps c.in_ok-walk_leaf.ensures.keeps;
       long = c.in_ok-walk_leaf.ensures.long ∙ inv.long;
+      reads = omega (arith, inv.reads, c.in_ok-walk_leaf.ensures.reads, pointers_next tops k (omega arith));
       same = λ tells. c.in_ok-walk_leaf.ensures.same tells ∙ inv.same tells;
       moments = λ tells. adds_read (inv.moments tells) (inv.same tells) (c.in_ok-walk_leaf.ensures.moments tells);
       fixed = c.in_ok-walk_leaf.ensures.fixed ∙ inv.fixed;
@@ -51,6 +53,7 @@ loop-k-init g c = record {
   stretch = λ tells. stretch_start _ _ _ _;
   keeps = keeps_none _ _ _;
   long = c.requires.marks;
+  reads = omega arith;
   same = λ tells. refl;
   moments = λ tells. adds_none _ _;
   fixed = refl;

@@ -1,4 +1,4 @@
-use Rattle.std.proofs.Common.{ℕ, List, sym, subst, refl}
+use Rattle.std.proofs.Common.{ℕ, List, sym, subst, refl, arith}
 use Rattle.vol_numbers.specs.Geometry.{layout_of}
 use Rattle.disk_model.specs.Disk.{State}
 use Rattle.block_tree.specs.Tree.{blocks_in}
@@ -9,6 +9,7 @@ use Rattle.image_walk.specs.Trees.{owner_met, top_met, Passes, PassesOver}
 use Rattle.image_walk.proofs.GoingLaws.{cause_passed}
 use Rattle.image_walk.proofs.TreeLaws.{passes_none, passes_err, passes_device}
 use Rattle.image_walk.proofs.NodeLaws.{top_none, top_over, top_empty_ends, top_tops_ends}
+use Rattle.image_walk.proofs.ReadsLaws.{passed_on, pointer_some, top_counted}
 use Rattle.image_walk.proofs.trees.walk_top.Goals as goal
 
 pub returns-then-at-eq0-clause-walked : goal.returns-then-at-eq0-clause-walked
@@ -53,3 +54,12 @@ returns-clause-walked g c tells =
     (c.in_ok-meet_empty.ensures.walked lay c.args.reached.now.marks) c.in_ok-meet_tops.ensures.walked refl refl
     (subst (λ (s : State). let ms : List Met = leaves_met (blocks_in s.contents) (owner_met o) o.blocks 0 tops in PassesOver lay (record c.args.reached.now { marks = c.meet_tops.new.marks }) c.walk_leaves.new.reached ms (lasts_of o.blocks ms) c.walk_leaves.result)
     (c.in_ok-tops.ensures.same tells) (c.walk_leaves.ensures.walked tells))
+
+pub returns-clause-reads : goal.returns-clause-reads
+returns-clause-reads g c =
+    let lay = layout_of c.args.g.now in
+    let o = c.args.owner.now in
+    let read = blocks_in (g.D.Disk.state c.args.disk.now).contents in
+    let tops : List ℕ = c.in_ok-tops.tops in
+    passed_on c.walk_leaves.result _ _ c.walk_leaves.ensures.reads
+    (λ reads tells. omega (arith, reads, c.in_ok-tops.ensures.reads, c.in_ok-meet_tops.ensures.counted, pointer_some c.args.at c.if-at-eq0.false, top_counted lay read o c.args.at tops c.if-at-eq0.false (c.in_ok-tops.ensures.pointers tells)))

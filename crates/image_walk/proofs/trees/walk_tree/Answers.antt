@@ -1,4 +1,4 @@
-use Rattle.std.proofs.Common.{refl}
+use Rattle.std.proofs.Common.{refl, arith}
 use Rattle.vol_numbers.specs.Geometry.{layout_of}
 use Rattle.block_tree.specs.Tree.{blocks_in}
 use Rattle.image_model.specs.Walk.{tree_met}
@@ -6,6 +6,7 @@ use Rattle.image_walk.specs.Trees.{owner_met}
 use Rattle.image_walk.proofs.GoingLaws.{cause_passed}
 use Rattle.image_walk.proofs.TreeLaws.{passes_err}
 use Rattle.image_walk.proofs.NodeLaws.{tree_zero, tree_one, tree_more, tree_ends}
+use Rattle.image_walk.proofs.ReadsLaws.{passed_on, leaf_counted, tree_counted}
 use Rattle.image_walk.proofs.trees.walk_tree.Goals as goal
 
 pub returns-then-height-eq0-clause-walked : goal.returns-then-height-eq0-clause-walked
@@ -32,3 +33,14 @@ pub returns-clause-walked : goal.returns-clause-walked
 returns-clause-walked g c tells =
     tree_more (layout_of c.args.g.now) c.args.owner.now (blocks_in (g.D.Disk.state c.args.disk.now).contents) c.args.reached.now (record c.args.reached.now { marks = c.meet_index.new.marks }) c.walk_top.new.reached c.args.height c.args.ptr c.walk_top.result
     c.if-height-eq0.false c.if-height-eq1.false c.in_ok-meet_index.ensures.walked refl refl (c.walk_top.ensures.walked tells)
+
+pub returns-then-height-eq1-clause-reads : goal.returns-then-height-eq1-clause-reads
+returns-then-height-eq1-clause-reads g c =
+    let read = blocks_in (g.D.Disk.state c.args.disk.now).contents in
+    passed_on c.walk_leaf.result _ _ c.walk_leaf.ensures.reads (λ reads tells. omega (arith, reads, c.in_ok-meet_index.ensures.counted, leaf_counted read c.args.owner.now c.args.height c.args.ptr c.if-height-eq1.true))
+
+pub returns-clause-reads : goal.returns-clause-reads
+returns-clause-reads g c =
+    let read = blocks_in (g.D.Disk.state c.args.disk.now).contents in
+    passed_on c.walk_top.result _ _ c.walk_top.ensures.reads
+    (λ reads tells. let behind = reads tells in omega (arith, behind, c.in_ok-meet_index.ensures.counted, tree_counted read c.args.owner.now c.args.height c.args.ptr c.if-height-eq0.false c.if-height-eq1.false))

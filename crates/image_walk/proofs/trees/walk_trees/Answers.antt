@@ -1,4 +1,4 @@
-use Rattle.std.proofs.Common.{◌+◌, ◌∙◌, ℕ, List, refl, subst, arith, drop, get_or}
+use Rattle.std.proofs.Common.{◌≤◌, ◌+◌, ◌∙◌, ℕ, List, refl, subst, arith, drop, get_or}
 use Rattle.std.specs.List.{flat_map}
 use Rattle.std.proofs.lemmas.List.{drop_all, drop_more}
 use Rattle.vol_numbers.specs.Geometry.{layout_of}
@@ -10,10 +10,12 @@ use Rattle.image_model.specs.Walk.{node_met}
 use Rattle.image_walk.specs.Going.{EndsBy}
 use Rattle.image_walk.specs.Kept.{node_lasts, all_lasts}
 use Rattle.image_walk.specs.Order.{InOrder}
+use Rattle.image_walk.specs.Reads.{metadata_count}
 use Rattle.image_walk.specs.Trees.{Passes}
 use Rattle.image_walk.proofs.TreeLaws.{passes_err, stretch_start, stretch_next, stretch_ends}
 use Rattle.image_walk.proofs.NodeLaws.{no_node, nodes_next, lasts_next}
 use Rattle.image_walk.proofs.OrderLaws.{order_next}
+use Rattle.image_walk.proofs.ReadsLaws.{nodes_counted}
 use Rattle.image_walk.proofs.trees.walk_trees.Goals as goal
 
 pub loop-node-init : goal.loop-node-init
@@ -21,6 +23,7 @@ loop-node-init g c = record {
   stretch = λ tells. stretch_start _ _ _ _;
   order = c.requires.order;
   long = c.requires.marks;
+  reads = λ tells. omega arith;
   same = λ tells. refl;
   moments = λ tells. adds_none _ _;
   fixed = refl;
@@ -53,6 +56,10 @@ loop-node-preserved g c =
           (subst (λ (s : State). Passes lay c.loop-node.reached c.walk_node.new.reached (node_met (blocks_in s.contents) (get_or nodes i no_node)) (node_lasts (blocks_in s.contents) (get_or nodes i no_node))) (inv.same tells) (c.in_ok-walk_node.ensures.walked tells));
       order = order_next _ (drop i nodes) (drop (i + 1) nodes) (get_or nodes i no_node) _ _ (drop_more nodes i no_node (omega arith)) inv.order c.in_ok-walk_node.ensures.keeps;
       long = c.in_ok-walk_node.ensures.long ∙ inv.long;
+      reads = λ tells.
+          let below = subst (λ (s : State). (g.D.Disk.given c.walk_node.new.disk).count ≤ (g.D.Disk.given c.loop-node.disk).count + metadata_count (node_met (blocks_in s.contents) (get_or nodes i no_node))) (inv.same tells) (c.in_ok-walk_node.ensures.reads tells) in
+          let before = inv.reads tells in
+          omega (arith, below, before, nodes_counted read nodes i (omega arith));
       same = λ tells. c.in_ok-walk_node.ensures.same tells ∙ inv.same tells;
       moments = λ tells. adds_read (inv.moments tells) (inv.same tells) (c.in_ok-walk_node.ensures.moments tells);
       fixed = c.in_ok-walk_node.ensures.fixed ∙ inv.fixed;

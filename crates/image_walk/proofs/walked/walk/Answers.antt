@@ -15,7 +15,7 @@ use Rattle.image_walk.specs.declared.marks.Mark.{Mark}
 use Rattle.image_walk.specs.Marks.{Says, SaysUpTo}
 use Rattle.image_walk.proofs.MarkLaws.{says_nothing}
 use Rattle.image_walk.proofs.WholeLaws.{found_first, says_exact}
-use Rattle.image_walk.proofs.FewPointers.{few_pointers}
+use Rattle.image_walk.proofs.FewPointers.{few_pointers, few_indexes}
 use Rattle.image_walk.proofs.walked.walk.Goals as goal
 
 pub returns-in_err-walk_parts-clause-found : goal.returns-in_err-walk_parts-clause-found
@@ -76,3 +76,9 @@ returns-clause-on_disk g c =
 
 pub returns-clause-within : goal.returns-clause-within
 returns-clause-within g c = subst AreWithin (sym c.end.ensures.nodes) (are_within 0 65536 _ (omega arith) c.in_ok-walk_parts.ensures.rise)
+
+pub returns-clause-few : goal.returns-clause-few
+returns-clause-few g c tells =
+    let lay = layout_of c.args.g.now in
+    let none : SaysUpTo c.in_ok-walking.walking.reached.marks [] = subst (λ (ms : List Mark). SaysUpTo ms []) (sym c.in_ok-walking.ensures.marks) (says_nothing (1024 * count_blocks lay)) in
+    few_indexes lay (blocks_in (g.D.Disk.state c.args.disk.now).contents) c.args.at ((c.in_ok-walk_parts.ensures.walked tells).marks.fine [] none)

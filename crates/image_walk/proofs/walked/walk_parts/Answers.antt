@@ -1,4 +1,4 @@
-use Rattle.std.proofs.Common.{◌≡◌, ◌∙◌, ◌++◌, ◌∷◌, List, ℕ, map, arith, refl, sym, ap, subst}
+use Rattle.std.proofs.Common.{◌≡◌, ◌≤◌, ◌+◌, ◌∙◌, ◌++◌, ◌∷◌, List, ℕ, map, arith, refl, sym, ap, subst}
 use Rattle.std.specs.List.{flat_map}
 use Rattle.vol_numbers.specs.Geometry.{layout_of}
 use Rattle.disk_model.specs.Disk.{State}
@@ -8,6 +8,7 @@ use Rattle.image_model.specs.Met.{index}
 use Rattle.image_model.specs.Walk.{entries_met, blocks_met, blocks_inodes, root_met, node_met, nodes_of, nodes_at}
 use Rattle.image_walk.specs.Going.{Goes, EndsBy}
 use Rattle.image_walk.specs.Kept.{all_lasts}
+use Rattle.image_walk.specs.Reads.{metadata_count}
 use Rattle.image_walk.specs.Trees.{PassesOver}
 use Rattle.image_walk.proofs.TreeLaws.{passes_err}
 use Rattle.image_walk.proofs.OrderLaws.{on_ok, root_there, grown, order_start, all_rise}
@@ -15,6 +16,7 @@ use Rattle.place_words.specs.Rising.{Rising}
 use Rattle.place_words.proofs.Rising.{rising_less}
 use Rattle.image_walk.specs.declared.marks.Mark.{Mark}
 use Rattle.image_walk.proofs.WholeLaws.{index_ends, inodes_end, root_ends, parts_over}
+use Rattle.image_walk.proofs.ReadsLaws.{passed_on, walk_counted}
 use Rattle.image_walk.proofs.walked.walk_parts.Goals as goal
 
 pub returns-in_err-entries-clause-walked : goal.returns-in_err-entries-clause-walked
@@ -89,3 +91,22 @@ returns-clause-root g c =
     let rise = grown 0 65536 c.args.walking.now.nodes.items c.walk_inodes.new.nodes.items c.requires.nodes c.in_ok-walk_inodes.ensures.grows in
     on_ok c.walk_trees.result _ (root_there lay c.walk_inodes.new.nodes.items (all_rise 0 65536 _ rise)
     (subst (λ (xs : List (ℕ × Inode)). (marks : List Mark) → Goes lay marks marks (root_met xs)) c.deref.ensures.value (c.in_ok-walk_root.ensures.walked lay)))
+
+pub returns-clause-reads : goal.returns-clause-reads
+returns-clause-reads g c =
+    let read = blocks_in (g.D.Disk.state c.args.disk.now).contents in
+    let es : List ℕ = c.in_ok-entries.entries in
+    let items : List (ℕ × Inode) = c.walk_inodes.new.nodes.items in
+    let old : List (ℕ × Inode) = c.args.walking.now.nodes.items in
+    passed_on c.walk_trees.result _ _ c.walk_trees.ensures.reads
+    (λ reads tells.
+    let e : index_at read c.args.at ≡ es = c.in_ok-entries.ensures.entries tells in
+    let are : items ≡ nodes_at read c.args.at =
+    subst (λ (s : State). items ≡ old ++ nodes_of (blocks_inodes (blocks_in s.contents) 0 es)) (c.in_ok-entries.ensures.same tells) (c.in_ok-walk_inodes.ensures.nodes tells)
+    ∙ (ap (λ (xs : List (ℕ × Inode)). xs ++ nodes_of (blocks_inodes read 0 es)) c.requires.nodes ∙ ap (λ (xs : List ℕ). nodes_of (blocks_inodes read 0 xs)) (sym e)) in
+    let same = c.in_ok-walk_inodes.ensures.same tells ∙ c.in_ok-entries.ensures.same tells in
+    let count : ℕ = (g.D.Disk.given c.walk_inodes.new.disk).count in
+    let trees =
+    subst (λ (s : State). (g.D.Disk.given c.walk_trees.new.disk).count ≤ count + metadata_count (flat_map (node_met (blocks_in s.contents)) items)) same
+    (subst (λ (xs : List (ℕ × Inode)). (g.D.Disk.given c.walk_trees.new.disk).count ≤ count + metadata_count (flat_map (node_met (blocks_in (g.D.Disk.state c.walk_inodes.new.disk).contents)) xs)) c.deref-2.ensures.value (reads tells)) in
+    omega (arith, trees, c.in_ok-walk_inodes.ensures.reads, c.in_ok-entries.ensures.reads, walk_counted read c.args.at es items e are))

@@ -2,11 +2,11 @@ use Rattle.std.proofs.Common.{◌∙◌, ap, sym, subst, inl, refl, arith}
 use Rattle.block_format.specs.Words.{words}
 use Rattle.std.specs.Prelude.{All, take}
 use Rattle.block_format.specs.Index.{SpellsIndex, IsPointer}
-use Rattle.inode_file.proofs.LoadLaws.{index_of_counts}
 use Rattle.disk_model.specs.Disk.{State}
 use Rattle.vol_numbers.specs.declared.block.Block.{Block}
 use Rattle.vol_numbers.specs.Geometry.{layout_of}
 use Rattle.block_tree.specs.Tree.{blocks_in}
+use Rattle.block_tree.proofs.DamageLaws.{index_of_counts}
 use Rattle.block_tree.proofs.EntryLaws.{block_read, index_there}
 use Rattle.inode_file.proofs.loading.read_pointers.Goals as goal
 

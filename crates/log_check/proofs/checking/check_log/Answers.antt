@@ -1,5 +1,5 @@
-use Rattle.std.proofs.Common.{List, subst}
-use Rattle.std.specs.Prelude.{Err, IsTrue}
+use Rattle.std.proofs.Common.{◌≤◌, ◌+◌, ℕ, List, subst}
+use Rattle.std.specs.Prelude.{Err, IfNone, IsTrue, Option}
 use Rattle.tree_model.specs.declared.command.Command.{Command}
 use Rattle.volume_model.specs.Machine.{Stored}
 use Rattle.image_model.specs.Finds.{IsBadLog}
@@ -9,7 +9,7 @@ use Rattle.log_check.specs.Cause.{IfFound}
 use Rattle.log_check.specs.Reading.{IsWhole, IsPart}
 use Rattle.log_check.specs.declared.fault.LogCheckFault.{LogCheckFault}
 use Rattle.log_check.proofs.LogLemmas.{all_logs, refused_bad, part_bad}
-use Rattle.log_check.proofs.ResultLemmas.{found_map, found_same, cause_moved, cause_same, ok_is}
+use Rattle.log_check.proofs.ResultLemmas.{found_map, found_same, found_known, cause_moved, cause_same, ok_is}
 use Rattle.log_check.proofs.checking.check_log.Goals as goal
 
 pub returns-in-Err-clause-found : goal.returns-in-Err-clause-found
@@ -55,3 +55,15 @@ returns-in-Ok-clause-takes g c =
     ok_is {T = List Command} {E = LogCheckFault} c.if_whole.result c.in_ok-front.front.commands (IsWhole c.args.body.now c.in_ok-front.front)
     (λ records. TakesEach c.args.free c.args.nodes.now records c.accept_each.new.nodes)
     c.if_whole.ensures.whole c.if_whole.ensures.is (λ whole. takes)
+
+pub returns-in-Err-clause-reads_again : goal.returns-in-Err-clause-reads_again
+returns-in-Err-clause-reads_again g c = found_known {T = List Command} (Err c.in-Err.fault) _ c.in_ok-front.ensures.reads_again
+
+pub returns-in-Ok-clause-reads_again : goal.returns-in-Ok-clause-reads_again
+returns-in-Ok-clause-reads_again g c = found_known {T = List Command} c.if_whole.result _ c.in_ok-front.ensures.reads_again
+
+pub returns-in-Ok-clause-reads : goal.returns-in-Ok-clause-reads
+returns-in-Ok-clause-reads g c =
+    let few : Type 0 = (g.D.Disk.given c.read_front.new.disk).count ≤ (g.D.Disk.given c.args.disk.now).count + c.args.body.now.log_used in
+    ok_is {T = List Command} {E = LogCheckFault} c.if_whole.result c.in_ok-front.front.commands (IsWhole c.args.body.now c.in_ok-front.front) (λ records. few)
+    c.if_whole.ensures.whole c.if_whole.ensures.is (λ whole. subst (λ (bad : Option ℕ). IfNone bad few) whole.none_bad c.in_ok-front.ensures.reads)

@@ -2,7 +2,7 @@ use Rattle.std.proofs.Common.{◌≡◌, ◌<◌, ◌+◌, ◌*◌, ℕ, IsTrue}
 use Rattle.std.specs.Prelude.{slice_get, Some}
 use Rattle.vol_numbers.specs.Geometry.{layout_of}
 use Rattle.disk_model.specs.Past.{Adds}
-use Rattle.log_volume.specs.Blocks.{count_block}
+use Rattle.volume_format.specs.Blocks.{count_block}
 use Rattle.log_volume.proofs.mounting.are_counts.Given as goal
 
 abbrev pub invariant-loop-i : goal.invariant-loop-i

@@ -1,4 +1,4 @@
-use Rattle.std.proofs.Common.{◌≡◌, ◌∙◌, ◌+◌, ◌++◌, map, List, [], ◌∷◌, take, get_or, sym, ap, subst}
+use Rattle.std.proofs.Common.{◌≡◌, ◌∙◌, ◌+◌, ◌++◌, map, List, [], ◌∷◌, take, get_or, sym, ap, subst, arith}
 use Rattle.std.specs.Prelude.{IsTrue}
 use Rattle.std.proofs.lemmas.List.{take_all}
 use Rattle.std.proofs.lemmas.Result.{err_from_is_err_and}
@@ -13,6 +13,7 @@ use Rattle.name_check.specs.Directories.{is_bad, IsRead, FindsBad, AreHeld, AreW
 use Rattle.name_check.specs.Seeing.{directory_numbers}
 use Rattle.name_check.proofs.FirstLaws.{fine_there}
 use Rattle.name_check.proofs.HeldLaws.{node_there, held_below, numbers_more, numbers_other, held_more, held_other, other_fine, all_held, found_wide, wide_more, wide_other, finds, read_fine, no_directory}
+use Rattle.name_check.proofs.OnceLaws.{own_count, directories_once, numbers_next}
 use Rattle.name_check.proofs.directory_check.directories.Goals as goal
 use Rattle.name_check.proofs.directory_check.directories.Goals.{in-Directory+in_ok-slots+in_ok-push, in_default}
 
@@ -62,6 +63,10 @@ loop-node-preserved g c =
             numbers = subst (λ (held : List Held). map (λ h. h.number) held ≡ directory_numbers (take (k + 1) nodes)) (sym now) (numbers_more nodes k lt c.loop-node.held w.in_ok-slots.slots _ _ _ w.in-Directory.is inv.numbers);
             wide = subst (λ (held : List Held). AreWide (take (k + 1) nodes) held) (sym now) (wide_more nodes k c.loop-node.held w.in_ok-slots.slots _ _ _ lt w.in-Directory.is inv.wide w.in_ok-slots.ensures.wide);
             held = λ tells. subst (λ (held : List Held). AreHeld read pages (take (k + 1) nodes) held) (sym now) (held_more read pages nodes k c.loop-node.held w.in_ok-slots.slots _ _ _ lt w.in-Directory.is (inv.held tells) (good tells));
+            reads = (
+                let now = ap (λ d. (g.D.Disk.given d).count) w.disk-is in
+                let next = numbers_next (own_count pages) nodes k (0, Unused) lt in
+                omega (arith, now, next, inv.reads, w.in_ok-slots.ensures.reads));
             same = λ tells. ap (λ d. g.D.Disk.state d) w.disk-is ∙ w.in_ok-slots.ensures.same tells ∙ inv.same tells;
             moments = λ tells. subst (λ d. Adds (g.D.Disk.past c.args.disk.now) (g.D.Disk.past d) (λ s. s ≡ g.D.Disk.state c.args.disk.now)) (sym w.disk-is) (adds_read (inv.moments tells) (inv.same tells) (w.in_ok-slots.ensures.moments tells));
             fixed = ap (λ d. g.D.Disk.fixed d) w.disk-is ∙ w.in_ok-slots.ensures.fixed ∙ inv.fixed;
@@ -74,6 +79,10 @@ loop-node-preserved g c =
             numbers = subst (λ (held : List Held). map (λ h. h.number) held ≡ directory_numbers (take (k + 1) nodes)) (sym w.held-is) (numbers_other nodes k lt c.loop-node.held other inv.numbers);
             wide = subst (λ (held : List Held). AreWide (take (k + 1) nodes) held) (sym w.held-is) (wide_other nodes k c.loop-node.held lt other inv.wide);
             held = λ tells. subst (λ (held : List Held). AreHeld read pages (take (k + 1) nodes) held) (sym w.held-is) (held_other read pages nodes k c.loop-node.held lt other (inv.held tells));
+            reads = (
+                let now = ap (λ d. (g.D.Disk.given d).count) w.disk-is in
+                let next = numbers_next (own_count pages) nodes k (0, Unused) lt in
+                omega (arith, now, next, inv.reads));
             same = λ tells. ap (λ d. g.D.Disk.state d) w.disk-is ∙ inv.same tells;
             moments = λ tells. subst (λ d. Adds (g.D.Disk.past c.args.disk.now) (g.D.Disk.past d) (λ s. s ≡ g.D.Disk.state c.args.disk.now)) (sym w.disk-is) (inv.moments tells);
             fixed = ap (λ d. g.D.Disk.fixed d) w.disk-is ∙ inv.fixed;
@@ -88,3 +97,6 @@ returns-clause-widths g c n width height ptr slots has is =
 
 pub returns-clause-numbers : goal.returns-clause-numbers
 returns-clause-numbers g c = c.loop-node.invariant.numbers ∙ ap directory_numbers (take_all c.loop-node.node-index c.args.nodes.now c.loop-node-test.false)
+
+pub returns-clause-reads : goal.returns-clause-reads
+returns-clause-reads g c = directories_once _ _ _ c.args.pages.now c.args.nodes.now c.requires.nodes c.loop-node.invariant.reads

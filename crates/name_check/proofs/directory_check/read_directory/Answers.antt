@@ -6,6 +6,7 @@ use Rattle.name_check.specs.Directories.{HaveBytes, IsRead, FindsBad}
 use Rattle.image_walk.specs.declared.node_block.NodeBlock.{NodeBlock}
 use Rattle.name_check.proofs.BadLaws.{all_read, all_bad, wrong_count_is_bad, if_ok_under, if_err_under}
 use Rattle.name_check.proofs.RunLaws.{own_on_disk}
+use Rattle.name_check.proofs.OnceLaws.{own_times, on_ok}
 use Rattle.name_check.proofs.directory_check.read_directory.Goals as goal
 
 pub read_pages-requires : goal.read_pages-requires
@@ -33,3 +34,8 @@ returns-clause-bad g c =
     if_err_under (IsTrue g.D.Disk.tells) c.spelled.result (FindsBad read c.args.pages.now c.args.number c.args.width)
     (λ tells. all_bad read c.args.pages.now c.args.number c.args.width c.in_ok-blocks.blocks c.spelled.result
     (subst (λ (bs : List NodeBlock). HaveBytes read bs c.in_ok-blocks.blocks) c.of_number-own.ensures (c.in_ok-blocks.ensures.bytes tells)) c.requires.width c.spelled.ensures.bad)
+
+pub returns-clause-reads : goal.returns-clause-reads
+returns-clause-reads g c =
+    let many = ap length c.of_number-own.ensures ∙ own_times c.args.number c.args.pages.now in
+    on_ok c.spelled.result _ (omega (arith, many, c.in_ok-blocks.ensures.reads))

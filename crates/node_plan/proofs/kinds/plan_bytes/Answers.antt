@@ -1,13 +1,13 @@
-use Rattle.std.proofs.Common.{◌<◌, ℕ, List, sym, subst}
+use Rattle.std.proofs.Common.{ℕ, List, subst}
 use Rattle.std.specs.Prelude.{IsTrue}
 use Rattle.std.specs.Option.{option_copied}
 use Rattle.vol_numbers.specs.declared.block.Block.{Block}
 use Rattle.block_format.specs.Inode.{blocks_of}
 use Rattle.point_model.specs.NodePlan.{TreeIsPlanned}
-use Rattle.node_plan.specs.Pages.{slots_or_none}
-use Rattle.node_plan.specs.Trees.{EndsAt, IsFullTree, Carries}
+use Rattle.tree_plan.specs.Pages.{slots_or_none}
+use Rattle.tree_plan.specs.Trees.{EndsAt, IsFullTree, Carries}
 use Rattle.node_plan.proofs.NodeLaws.{bytes_planned}
-use Rattle.node_plan.proofs.NeedLaws.{file_places, file_need}
+use Rattle.node_plan.proofs.NeedLaws.{file_places}
 use Rattle.node_plan.proofs.kinds.plan_bytes.Goals as goal
 
 pub returns-clause-plan : goal.returns-clause-plan

@@ -1,5 +1,5 @@
 use Rattle.std.specs.Option.{option_copied}
-use Rattle.node_plan.specs.Pages.{slots_or_none}
+use Rattle.tree_plan.specs.Pages.{slots_or_none}
 use Rattle.node_plan.proofs.NodeLaws.{names_planned, slots_fit}
 use Rattle.node_plan.proofs.kinds.plan_names.Goals as goal
 

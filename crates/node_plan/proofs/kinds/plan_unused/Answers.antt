@@ -1,5 +1,5 @@
 use Rattle.std.specs.Option.{option_copied}
-use Rattle.node_plan.specs.Pages.{slots_or_none}
+use Rattle.tree_plan.specs.Pages.{slots_or_none}
 use Rattle.node_plan.proofs.NodeLaws.{unused_planned}
 use Rattle.node_plan.proofs.kinds.plan_unused.Goals as goal
 

@@ -1,9 +1,9 @@
-use Rattle.std.proofs.Common.{◌≡◌, ◌<◌, ◌≤◌, ℕ, ◌+◌, ◌/◌, List, length, take, get_or, take_all, sym, ap, subst, ◌∙◌, arith}
+use Rattle.std.proofs.Common.{◌<◌, ◌/◌, List, take, get_or, take_all, sym, ap, subst, ◌∙◌, arith}
 use Rattle.std.specs.Prelude.{All}
 use Rattle.vol_numbers.specs.declared.runs.Change.{Change}
 use Rattle.block_tree.specs.Edit.{leaves_of}
 use Rattle.place_words.specs.Different.{different}
-use Rattle.node_plan.proofs.LeafCounts.{IsCounted, counted_again, counted_more, counted_none, counted_as, leaves_more}
+use Rattle.node_plan.proofs.LeafCounts.{counted_again, counted_more, counted_none, counted_as, leaves_more}
 use Rattle.node_plan.proofs.room.leaf_count.Goals as goal
 use Rattle.node_plan.proofs.room.leaf_count.Goals.{then-not-seen-leaf, else-not-seen-leaf}
 

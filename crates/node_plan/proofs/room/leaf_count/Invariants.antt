@@ -1,6 +1,5 @@
-use Rattle.std.proofs.Common.{◌≡◌, ◌≤◌, length, take}
+use Rattle.std.proofs.Common.{◌≤◌, take}
 use Rattle.block_tree.specs.Edit.{leaves_of}
-use Rattle.place_words.specs.Different.{different}
 use Rattle.node_plan.proofs.LeafCounts.{IsCounted}
 use Rattle.node_plan.proofs.room.leaf_count.Given as goal
 

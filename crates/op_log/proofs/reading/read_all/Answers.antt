@@ -52,6 +52,7 @@ loop-i-preserved g c =
       have_records = subst (All HasRecord) (sym longer) (All-push HasRecord commands command so_far.have_records one.has_record);
       within = omega (arith, taken, room);
       used = omega (arith, taken, so_far.used, one.counted);
+      reads = omega (arith, next.reads, so_far.reads);
       same = λ tells. next.same tells ∙ so_far.same tells;
       moments = λ tells. adds_read (so_far.moments tells) (so_far.same tells) (next.moments tells);
       fixed = next.fixed ∙ so_far.fixed;

@@ -1,4 +1,4 @@
-use Rattle.std.proofs.Common.{◌≡◌, ◌≤◌, IsTrue, length}
+use Rattle.std.proofs.Common.{◌≡◌, ◌≤◌, ◌+◌, IsTrue, length}
 use Rattle.std.specs.Prelude.{All}
 use Rattle.vol_numbers.specs.Layout.{log_start}
 use Rattle.disk_model.specs.Past.{Adds}
@@ -14,6 +14,7 @@ invariant-loop-i g l = record {
   have_records : All HasRecord l.commands.items;
   within : blocks_of l.commands.items ≤ l.body.log_used;
   used : l.used ≡ blocks_of l.commands.items;
+  reads : (g.D.Disk.given l.disk).count ≤ (g.D.Disk.given l.fn.disk).count + l.used;
   same : IsTrue g.D.Disk.tells → g.D.Disk.state l.disk ≡ g.D.Disk.state l.fn.disk;
   moments : IsTrue g.D.Disk.tells → Adds (g.D.Disk.past l.fn.disk) (g.D.Disk.past l.disk) (λ s. s ≡ g.D.Disk.state l.fn.disk);
   fixed : g.D.Disk.fixed l.disk ≡ g.D.Disk.fixed l.fn.disk;

@@ -19,6 +19,7 @@ loop-i-preserved g c =
       front = front_stays c.args.done i old new c.args.bytes.now.items (omega arith) so_far.long c.in_default.ensures.front so_far.front;
       blocks = λ tells. blocks_more image at i old new so_far.long c.in_default.ensures.long c.in_default.ensures.front (so_far.blocks tells)
           (subst (λ (s : State). slice_get s.contents (at + i) ≡ Some (record { bytes = drop (length old) new })) (so_far.same tells) (c.in_default.ensures.block tells));
+      reads = omega (arith, c.in_default.ensures.reads, so_far.reads);
       same = λ tells. c.in_default.ensures.same tells ∙ so_far.same tells;
       moments = λ tells. adds_read (so_far.moments tells) (so_far.same tells) (c.in_default.ensures.moments tells);
       fixed = c.in_default.ensures.fixed ∙ so_far.fixed;

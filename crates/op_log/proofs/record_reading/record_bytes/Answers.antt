@@ -43,3 +43,11 @@ returns-in-Ok-clause-are_blocks g c = λ tells.
 
 pub returns-in-Ok-clause-moments : goal.returns-in-Ok-clause-moments
 returns-in-Ok-clause-moments g c = λ tells. adds_read (c.in_default.ensures.moments tells) (c.in_default.ensures.same tells) (c.in-Ok.ensures.moments tells)
+
+pub returns-in-Ok-clause-reads : goal.returns-in-Ok-clause-reads
+returns-in-Ok-clause-reads g c =
+    let bytes : List ℕ = c.read_up_to.new.bytes.items in
+    let whole : List ℕ = c.read_up_to-2.new.bytes.items in
+    let head : c.read.result ≡ head_in whole = c.read.ensures ∙ ap head_in c.deref.ensures.value ∙ sym (head_stays bytes whole c.in_default.ensures.long c.in-Ok.ensures.front) in
+    let count : c.in-Some.count ≡ blocks_in (head_in whole) = c.in-Some.ensures.value ∙ ap blocks_in head in
+    omega (arith, c.in_default.ensures.reads, c.in-Ok.ensures.reads, count)

@@ -2,6 +2,7 @@ use Rattle.std.proofs.Common.{◌≡◌, ◌<◌, ◌+◌, ◌-◌, ◌*◌, ◌
 use Rattle.std.specs.Prelude.{min, slice_range}
 use Rattle.disk_model.specs.Disk.{State}
 use Rattle.disk_model.proofs.Moments.{adds_read}
+use Rattle.block_tree.proofs.DamageLaws.{look_passed}
 use Rattle.place_read.specs.Holding.{HoldsFiles}
 use Rattle.place_read.specs.Part.{end_of}
 use Rattle.place_read.proofs.PartLaws.{AreFrom, damage_passed, piece_is, piece_many, piece_from}
@@ -11,6 +12,11 @@ use Rattle.volume_model.specs.Machine.{bytes_numbered}
 pub returns-in_err-read_place-clause-damaged : goal.returns-in_err-read_place-clause-damaged
 returns-in_err-read_place-clause-damaged g c =
     damage_passed _ _ _ _ _ _ c.from_residual-in_err-read_place.result c.in_err-read_place.field-0.0 c.from_residual-in_err-read_place.ensures.1 c.loop-place.invariant.given c.in_err-read_place.ensures.damaged
+
+pub returns-in_err-read_place-clause-sound : goal.returns-in_err-read_place-clause-sound
+returns-in_err-read_place-clause-sound g c tells r m holds layout =
+    let now = subst (λ (s : State). HoldsFiles r m s.contents c.args.inodes.now c.args.dirty.now.overlay) (sym (c.loop-place.invariant.same tells)) holds in
+    look_passed c.from_residual-in_err-read_place.result c.in_err-read_place.field-0.0 (λ b. ⊥) (λ b. ⊥) c.from_residual-in_err-read_place.ensures.1 (c.in_err-read_place.ensures.sound tells r m now layout) (λ b is. is)
 
 pub loop-place-preserved : goal.loop-place-preserved
 loop-place-preserved g c =

@@ -1,4 +1,5 @@
 use Rattle.std.proofs.Common.{◌≡◌, ◌<◌, ◌∙◌, ℕ, List, [], ap, arith, length}
+use Rattle.block_tree.proofs.DamageLaws.{damage_like}
 use Rattle.place_read.proofs.PartLaws.{part_is}
 use Rattle.place_read.proofs.part.read_bytes.Goals as goal
 use Rattle.place_read.proofs.part.read_bytes.Goals.{then-part-end+in_ok-push_places, else-part-end}
@@ -17,3 +18,7 @@ returns-clause-read g c tells r m holds sized =
           ap (λ v. v.items) w.bytes-is
           ∙ part_is content c.new-bytes.result.items c.args.part.now.offset c.args.part.now.length (omega (arith, none, sized, c.end.ensures)) (λ i lt. absurd (omega (arith, lt, none))))
     ]
+
+pub returns-in_err-push_places-clause-sound : goal.returns-in_err-push_places-clause-sound
+returns-in_err-push_places-clause-sound g c tells r m holds layout =
+    damage_like c.from_residual.result c.in_err-push_places.field-0.0 (λ b. ⊥) (λ b. ⊥) c.from_residual.ensures.1 (c.in_err-push_places.ensures.sound tells r m holds layout) (λ b is. is)

@@ -8,6 +8,7 @@ use Rattle.dirty_store.specs.Numbers.{AreOnce, staged_numbers}
 use Rattle.point_plan.specs.PlanNodes.{StopsShort}
 use Rattle.point_plan.proofs.PlacedLaws.{changes_dirty, changes_placed, changes_point, changes_used, left_point}
 use Rattle.point_plan.proofs.PlacedShort.{was_short}
+use Rattle.point_plan.proofs.SoundLaws.{was_damaged}
 use Rattle.point_plan.proofs.gathering.with_nodes.Goals as goal
 
 pub plan_nodes-requires-clause-changes : goal.plan_nodes-requires-clause-changes
@@ -58,3 +59,7 @@ returns-in-Err-clause-short g c = λ free is tells r m shares holds.
       c.short_points.ensures.nodes r m _ _ c.args.state.now c.args.numbers.now c.args.placed g.D.Disk.tells shares holds c.requires.size c.requires.numbers c.requires.placed stop tells,
       at.1 ∙ c.requires.free ∙ c.short_points.ensures.free r m _ _ c.args.state.now holds c.requires.size,
     )
+
+pub returns-in-Err-clause-sound : goal.returns-in-Err-clause-sound
+returns-in-Err-clause-sound g c = λ b is tells r m holds.
+    c.in-Err.ensures.sound b (ap Err (was_damaged c.in-Err.fault c.node_fault.result c.args.free b c.node_fault.ensures is)) tells r m holds

@@ -4,12 +4,13 @@ use Rattle.block_format.specs.Inode.{inode_shape}
 use Rattle.block_format.specs.declared.inode.Inode.{Inode}
 use Rattle.block_tree.specs.Notes.{page_blocks}
 use Rattle.dirty_store.specs.Laws.{dirty_spots}
+use Rattle.disk_model.specs.Disk.{State}
 use Rattle.disk_model.proofs.Moments.{adds_none, adds_read}
 use Rattle.node_plan.specs.Faults.{HasNodeCause}
-use Rattle.node_plan.specs.declared.fault.NodeFault.TheVariants.{Short, OutOfMemory}
+use Rattle.node_plan.specs.declared.fault.NodeFault.TheVariants.{Damaged, Short, OutOfMemory}
 use Rattle.point_plan.specs.Gathered.{pages_in}
 use Rattle.point_plan.specs.PlanNodes.{AreAtDirty}
-use Rattle.point_plan.specs.State.{IsOfSize}
+use Rattle.point_plan.specs.State.{HoldsPoint, IsOfSize}
 use Rattle.point_plan.specs.declared.planned_node.PlannedNode.{PlannedNode}
 use Rattle.point_plan.proofs.NodesLoop.{AreAll, AreSoFar, IsAt, all_so_far, at_place, cause_passed, damage_passed, few_numbers, nodes_ascend, none_so_far, number_place, on_error, one_so_far, passed, plan_at, staged_number, stops_short, was_error, zip_at, zip_long}
 use Rattle.point_plan.proofs.NodesPlanned.{nodes_planned}
@@ -66,6 +67,11 @@ returns-in_err-node-clause-left g c =
 
 pub returns-in_err-node-clause-damaged : goal.returns-in_err-node-clause-damaged
 returns-in_err-node-clause-damaged g c = damage_passed PlannedNode (List PlannedNode) _ _ _ _ _ _ c.from_residual.result c.in_err-node.field-0.0 c.from_residual.ensures.1 c.loop-k.invariant.given c.in_err-node.ensures.damaged
+
+pub returns-in_err-node-clause-sound : goal.returns-in_err-node-clause-sound
+returns-in_err-node-clause-sound g c = λ b is tells r m holds.
+    c.in_err-node.ensures.sound b (was_error PlannedNode c.from_residual.result c.in_err-node.field-0.0 (Damaged b) c.from_residual.ensures.1 is) tells r m
+    (subst (λ (u : State). HoldsPoint r m u.contents c.args.state.now) (sym (c.loop-k.invariant.same tells)) holds)
 
 pub returns-in_err-node-clause-same : goal.returns-in_err-node-clause-same
 returns-in_err-node-clause-same g c = λ tells. c.in_err-node.ensures.same tells ∙ c.loop-k.invariant.same tells

@@ -1,12 +1,9 @@
 use Rattle.std.proofs.Common.{◌≡◌, ℕ, List, Err, sym, ap, subst, ◌∙◌}
 use Rattle.std.proofs.lemmas.Result.{IfOk-weaker}
 use Rattle.vol_numbers.specs.declared.block.Block.{Block}
-use Rattle.dirty_store.specs.Undo.{Store}
 use Rattle.point_plan.specs.Cause.{HasPlanCause}
 use Rattle.point_plan.specs.declared.fault.PlanFault.{PlanFault}
 use Rattle.point_plan.specs.declared.fault.PlanFault.TheVariants.{Damaged, Short}
-use Rattle.point_plan.specs.declared.gathering.Gathered.{Gathered}
-use Rattle.point_plan.specs.declared.planned.Plan.{Plan}
 use Rattle.point_plan.specs.declared.state.PointState.{PointState}
 use Rattle.point_plan.proofs.LongLaws.{no_room_is_short, no_room_tells}
 use Rattle.point_plan.proofs.NowLaws.{nodes_now}
@@ -60,3 +57,9 @@ returns-in-Err-clause-short g c = λ free is. let same : c.in-Err.fault ≡ Shor
 
 pub returns-in-Err-clause-damaged : goal.returns-in-Err-clause-damaged
 returns-in-Err-clause-damaged g c = λ b is. let same : c.in-Err.fault ≡ Damaged b = cc in c.in-Err.ensures.damaged b (ap (λ (f : PlanFault). Err f) same)
+
+pub returns-in-Err-clause-sound : goal.returns-in-Err-clause-sound
+returns-in-Err-clause-sound g c = λ b is tells.
+    let same : c.in-Err.fault ≡ Damaged b = cc in
+    let held = c.requires.held tells in
+    c.in-Err.ensures.sound b (ap (λ (f : PlanFault). Err f) same) tells held.0 held.1 held.3

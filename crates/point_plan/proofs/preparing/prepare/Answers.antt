@@ -1,7 +1,6 @@
 use Rattle.std.proofs.Common.{◌≡◌, List, sym, ap, subst, ◌∙◌}
 use Rattle.std.specs.Prelude.{All}
 use Rattle.vol_numbers.specs.Geometry.{layout_of}
-use Rattle.held_list.specs.declared.held.Held.{Held}
 use Rattle.inode_file.specs.Inodes.{inode_of}
 use Rattle.point_plan.specs.Gathered.{IsWholeIn}
 use Rattle.point_plan.specs.Nodes.{inode_or, planned_of}

@@ -1,6 +1,6 @@
 use Rattle.std.proofs.Common.{◌<◌, arith}
 use Rattle.std.specs.Option.{option_copied}
-use Rattle.node_plan.specs.Pages.{slots_or_none}
+use Rattle.tree_plan.specs.Pages.{slots_or_none}
 use Rattle.point_tests.specs.Within.{IsSlotWithin}
 use Rattle.point_tests.proofs.SlotsNow.{directory_now}
 use Rattle.point_tests.proofs.StagedNow.{next_one}

@@ -1,6 +1,6 @@
 use Rattle.std.proofs.Common.{◌<◌, ℕ}
 use Rattle.std.specs.Option.{option_copied}
-use Rattle.node_plan.specs.Pages.{slots_or_none}
+use Rattle.tree_plan.specs.Pages.{slots_or_none}
 use Rattle.point_tests.specs.Within.{IsSlotWithin}
 use Rattle.point_tests.proofs.slots.are_slots.Given as goal
 

@@ -1,0 +1,12 @@
+pub mod TreeLaws
+pub mod MetaLaws
+pub mod SlotLaws
+pub mod RisingLaws
+pub mod SpelledLaws
+pub mod DirectoryLaws
+pub mod PlannedLaws
+pub mod CutLaws
+pub mod LengthLaws
+pub mod PageCounts
+pub mod RenewedLaws
+pub mod FaultLaws

@@ -1,0 +1,4 @@
+pub mod Trees
+pub mod Pages
+pub mod Directories
+pub mod Renewed
