@@ -18,7 +18,7 @@ use Rattle.image_model.specs.Finds.{Finds, early_finding}
 use Rattle.image_model.specs.Findings.{free_in}
 use Rattle.image_model.specs.Seen.{seen}
 use Rattle.image_model.specs.Stands.{Stands, layout_in}
-use Rattle.node_table.specs.Held.{Nodes, HoldsNodes}
+use Rattle.node_table.specs.Held.{Nodes, HoldsNodes, AreDirectories}
 use Rattle.name_check.specs.Seeing.{HoldsDirectories}
 use Rattle.log_check.specs.Accepting.{HoldsATree}
 use Rattle.log_check.specs.Holding.{AreNodes, HoldsEachTree, IsTableOf}
@@ -64,7 +64,7 @@ pub record IsLoaded (image : List Block) (e : Examined) : Type 0 where
   pub metadata : e.metadata ≡ metadata_blocks stored.tree stored.places
 
 -- What holds on every disk of this size: there is a root within its rules, each count block is there and untouched, the table has the nodes of the inodes,
--- it holds a tree, and that accepts the records.
+-- each of its directories is one, it holds a tree, and that accepts the records.
 pub record IsFit (size : ℕ) (e : Examined) : Type 0 where
   pub slot : e.current.slot < 2
   pub grammar : HasGeometry (root_of e.current.body)
@@ -74,6 +74,7 @@ pub record IsFit (size : ℕ) (e : Examined) : Type 0 where
   pub free : e.free ≡ free_in (root_of e.current.body).layout e.counts.counts
   pub are : AreNodes e.inodes e.directories
   pub table : IsTableOf e.inodes e.directories e.nodes
+  pub each_directory : AreDirectories e.nodes
   pub a_tree : HoldsATree e.nodes
   pub have_records : All HasRecord e.records
   pub accepted : (s : Stored) → IsTree s.tree → HoldsNodes e.nodes s.tree → Accepts e.free s.tree 0 e.records

@@ -6,6 +6,7 @@ ghost use Rattle.root_switch.specs.Current.{root_of_image};
 ghost use Rattle.op_log.specs.Record.{HasRecord};
 ghost use Rattle.log_check.specs.Accepting.{HoldsATree};
 ghost use Rattle.log_check.specs.Holding.{AreNodes, FindsNoneLost, HoldsEachTree, IsTableOf};
+ghost use Rattle.node_table.specs.Held.{AreDirectories};
 ghost use Rattle.fs_check.specs.Cause.{HasFsCause};
 ghost use Rattle.fs_check.specs.Checked.{IsEarly, IsVerdict, StandsWith, AreAccepted};
 ghost use Rattle.fs_check.specs.Looked.{IsWellFormed};
@@ -42,6 +43,7 @@ pub(crate) fn load_log<D: Disk>(
     ensures table { IfOk result (λ l. IsTableOf looked.now.nodes looked.now.directories l.1) }
     ensures trees { IfOk result (λ l. HoldsEachTree looked.now.nodes looked.now.directories l.1) }
     ensures a_tree { IfOk result (λ l. HoldsATree l.1) }
+    ensures each { IfOk result (λ l. AreDirectories l.1) }
     ensures same { IsTrue D.tells → D.state disk.new ≡ D.state disk.old }
     ensures moments { IsTrue D.tells → Adds (D.past disk.old) (D.past disk.new) (λ s. s ≡ D.state disk.old) }
     ensures fixed { D.fixed disk.new ≡ D.fixed disk.old }

@@ -8,7 +8,7 @@ use Rattle.block_format.specs.Inode.{blocks_of}
 use Rattle.block_format.specs.declared.inode.Inode.{Inode}
 use Rattle.block_format.specs.declared.inode.Inode.TheVariants as inodes
 use Rattle.block_format.specs.declared.slot.Slot.{Slot}
-use Rattle.dir_slots.specs.Slots.{number_in}
+use Rattle.dir_slots.specs.Slots.{number_in, IsDirectory}
 use Rattle.held_list.specs.Held.{slots_at}
 use Rattle.held_list.specs.declared.held.Held.{Held as Directories}
 use Rattle.place_words.specs.Different.{is_among, Distinct}
@@ -25,7 +25,7 @@ use Rattle.image_model.proofs.DirectoryLaws.{numbers_same}
 use Rattle.image_model.proofs.NodePlaces.{numbers}
 use Rattle.image_model.proofs.SpaceLaws.{file_length, node_there}
 use Rattle.name_check.specs.Seeing.{HoldsDirectories, directory_numbers}
-use Rattle.node_table.specs.Held.{Nodes, HoldsNodes, info, info_of, slots_of as slots_held}
+use Rattle.node_table.specs.Held.{Nodes, HoldsNodes, AreDirectories, info, info_of, slots_of as slots_held}
 use Rattle.node_table.specs.declared.held.HeldNode.{HeldNode}
 use Rattle.node_table.specs.declared.held.HeldNode.TheVariants.{Directory}
 use Rattle.node_table.specs.declared.held.NodeInfo.TheVariants as infos
@@ -178,6 +178,20 @@ module _ (nodes : List (ℕ × Inode)) (directories : List Directories) (are : A
 
   pub holds_each : (table : Nodes) → IsTableOf nodes directories table → HoldsEachTree nodes directories table
   holds_each table is s t seen_nodes holds tree_held = holds_tree table is s t seen_nodes holds tree_held
+
+-- a directory of the table is the one that is held under its number
+pub each_directory : (nodes : List (ℕ × Inode)) (directories : List Directories) (table : Nodes) → IsTableOf nodes directories table
+    → ((n : ℕ) (ss : List Slot) → slots_at directories n ≡ Some ss → IsDirectory ss) → AreDirectories table
+each_directory nodes directories table is valid n ss held = by (inode_of nodes n) (sym (is n) ∙ held)
+  where
+    found : (o : Option (List Slot)) → option_map (λ x. Directory x) o ≡ Some (Directory ss) → o ≡ Some ss
+    found None e = cc
+    found (Some x) e = let same : x ≡ ss = cc in ap (λ (y : List Slot). Some y) same
+
+    by : (x : Inode) → node_held directories n x ≡ Some (Directory ss) → IsDirectory ss
+    by inodes.Unused e = cc
+    by (inodes.File size height ptr) e = cc
+    by (inodes.Directory width height ptr) e = valid n ss (found (slots_at directories n) e)
 
 -- ---- node by node
 

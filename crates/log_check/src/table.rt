@@ -5,6 +5,7 @@ ghost use Rattle.dir_slots.specs.Slots.{IsDirectory};
 ghost use Rattle.held_list.specs.Held.{slots_at};
 ghost use Rattle.image_model.specs.Walk.{is_directory};
 ghost use Rattle.node_table.specs.Changes.{IsSet};
+ghost use Rattle.node_table.specs.Held.{AreDirectories};
 ghost use Rattle.node_table.specs.declared.held.HeldNode.{HeldNode};
 ghost use Rattle.log_check.specs.Accepting.{HoldsATree};
 ghost use Rattle.log_check.specs.Holding.{AreNodes, node_held, IsTableOf, HoldsEachTree, FindsNoneLost};
@@ -26,6 +27,7 @@ pub fn table_of(
     requires { AreNodes nodes.now directories.now }
     ensures nodes { IfOk result (λ table. IsTableOf nodes.now directories.now table) }
     ensures trees { IfOk result (λ table. HoldsEachTree nodes.now directories.now table) }
+    ensures directories { IfOk result AreDirectories }
     ensures a_tree { IfOk result (λ table. FindsNoneLost nodes.now directories.now → HoldsATree table) }
 {
     let mut table = NodeTable::new(alloc)?;

@@ -2,7 +2,7 @@ use Rattle.node_table.specs.Held.{held}
 use Rattle.log_check.specs.Holding.{IsTableOf}
 use Rattle.log_check.proofs.MemoryTree.{a_tree}
 use Rattle.log_check.proofs.PutLaws.{at_least, at_most, some_held, next_put, next_others, next_valid, all_put, all_valid}
-use Rattle.log_check.proofs.TableLaws.{holds_each}
+use Rattle.log_check.proofs.TableLaws.{each_directory, holds_each}
 use Rattle.log_check.proofs.table.table_of.Goals as goal
 
 pub put_node-requires-clause-at_least : goal.put_node-requires-clause-at_least
@@ -39,3 +39,9 @@ returns-clause-a_tree c =
     let is : IsTableOf c.args.nodes.now c.args.directories.now c.loop-node.table =
     all_put c.args.nodes.now c.args.directories.now c.requires c.loop-node.node-index c.loop-node-test.false c.loop-node.table c.loop-node.invariant.put c.loop-node.invariant.others in
     a_tree c.args.nodes.now c.args.directories.now c.requires (all_valid c.args.nodes.now c.args.directories.now c.requires c.loop-node.node-index c.loop-node-test.false c.loop-node.invariant.valid) c.loop-node.table is
+
+pub returns-clause-directories : goal.returns-clause-directories
+returns-clause-directories c =
+    let is : IsTableOf c.args.nodes.now c.args.directories.now c.loop-node.table =
+    all_put c.args.nodes.now c.args.directories.now c.requires c.loop-node.node-index c.loop-node-test.false c.loop-node.table c.loop-node.invariant.put c.loop-node.invariant.others in
+    each_directory c.args.nodes.now c.args.directories.now c.loop-node.table is (all_valid c.args.nodes.now c.args.directories.now c.requires c.loop-node.node-index c.loop-node-test.false c.loop-node.invariant.valid)
