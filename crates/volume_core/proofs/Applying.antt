@@ -121,7 +121,7 @@ module _ (r : Rules) (tells : Bool) (m : Machine) (command : Command) (report : 
   takes x e = subst (λ (tree : Tree). (is_change command && not (is_some (refusal_of tree command))) ≡ x) (when_tree r m report) e
 
   -- The volume stopped at the change.
-  pub stopped : changes now command ≡ true → (IsTrue tells → is_full now command ≡ false) → (IsTrue tells → new.state.unsynced ≢ [])
+  pub stopped : (IsTrue tells → changes now command ≡ true) → (IsTrue tells → is_full now command ≡ false) → (IsTrue tells → new.state.unsynced ≢ [])
       → (IsTrue tells → EachImage (StandsForEither now command) new.state) → (IsTrue tells → Adds mid.past new.past (EachImage (StandsForEither now command)))
       → new.faults ≡ raised mid.faults → Applies r tells m (Stop command report) old new
   stopped change room unsynced left during faults = record {
@@ -133,7 +133,7 @@ module _ (r : Rules) (tells : Bool) (m : Machine) (command : Command) (report : 
   }
     where
       one : IsTrue tells → accepted_at_stop r m command report ≡ command ∷ []
-      one t = rw (takes true change, room t) refl
+      one t = rw (takes true (change t), room t) refl
 
       either : (image : List Block) → StandsForEither now command image → StandsForOne (m ∷ now ∷ done now command ∷ []) image
       either image (inl stands) = record { state = now; is_one = inr (inl refl); stands = stands }
@@ -152,4 +152,4 @@ module _ (r : Rules) (tells : Bool) (m : Machine) (command : Command) (report : 
           by : (x : Bool) → is_due m command ≡ x → (y : Bool) → is_short m ≡ y → may_write m command ≡ true
           by true e true f = let long = begun.long t in let both : true ≡ false = (rw (e, f) at long) in cc
           by true e false f = rw (e, f) refl
-          by false e y f = rw (e, takes true change) (rw (full e) refl)
+          by false e y f = rw (e, takes true (change t)) (rw (full e) refl)

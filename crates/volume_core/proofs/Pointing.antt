@@ -1,22 +1,20 @@
 -- What a volume owes where a point isn't taken, or fails.
-use Rattle.std.proofs.Common.{◌≡◌, ◌∙◌, ◌⊎◌, inl, inr, ◌+◌, ℕ, Bool, true, false, cond, List, [], ◌∷◌, Option, Some, None, refl, sym, ap, subst, arith}
+use Rattle.std.proofs.Common.{◌≡◌, inl, inr, Bool, true, false, cond, List, [], ◌∷◌, Some, None, refl, sym, subst, arith}
 use Rattle.std.specs.Prelude.{◌≢◌, ◌&&◌, IsTrue}
 use Rattle.vol_numbers.specs.Cause.{raised}
 use Rattle.vol_numbers.specs.declared.block.Block.{Block}
-use Rattle.disk_model.specs.Disk.{State, IsImage, EachImage}
-use Rattle.disk_model.specs.Past.{Past, Adds}
+use Rattle.disk_model.specs.Disk.{State, EachImage}
+use Rattle.disk_model.specs.Past.{Adds}
 use Rattle.disk_model.proofs.Moments.{adds_weaker}
 use Rattle.tree_model.specs.declared.command.Command.{Command}
 use Rattle.tree_model.specs.declared.reply.Reply.{Reply}
-use Rattle.tree_model.specs.declared.report.Answer.{Answer}
 use Rattle.tree_model.specs.declared.report.Report.{Report}
 use Rattle.tree_model.specs.Step.{is_change}
 use Rattle.volume_model.specs.Legal.{is_due, is_excuse}
 use Rattle.volume_model.specs.Machine.{Machine, Rules, stored}
 use Rattle.volume_model.specs.Point.{IsPoint, after_point, fresh_in}
 use Rattle.volume_model.specs.Short.{IsLegalForNow, answered, point_short, is_short}
-use Rattle.session_model.specs.Answered.{IsLegalLast, may_write}
-use Rattle.session_model.specs.Course.{Exchange, Last, accepted_by, accepted_at_stop, after, next_by}
+use Rattle.session_model.specs.Course.{accepted_by, accepted_at_stop, after, next_by}
 use Rattle.session_model.specs.Course.Last.{Untold, Stop}
 use Rattle.session_model.specs.Follows.{Seen, IsAtRest, raised_by}
 use Rattle.session_model.specs.Given.{is_damaged, is_fault}

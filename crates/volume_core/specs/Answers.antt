@@ -1,5 +1,5 @@
 -- What a volume answers, and what comes of it.
-use Rattle.std.specs.Prelude.{◌≡◌, ◌⊎◌, ℕ, not, if◌then◌else◌, Bool, false, IsTrue, Option, None, Result, Ok, Err}
+use Rattle.std.specs.Prelude.{◌≡◌, ◌⊎◌, ℕ, not, ◌&&◌, if◌then◌else◌, Bool, false, IsTrue, Option, None, Result, Ok, Err}
 use Rattle.tree_model.specs.declared.command.Command.{Command}
 use Rattle.tree_model.specs.declared.command.Command.TheVariants.{Layout, Checkpoint, Read, Space}
 use Rattle.tree_model.specs.declared.refusal.Refusal.{Refusal}
@@ -13,7 +13,8 @@ use Rattle.tree_model.specs.Tree.{Tree}
 use Rattle.block_tree.specs.declared.fault.TreeFault.{TreeFault}
 use Rattle.block_tree.specs.declared.fault.TreeFault.TheVariants as trees
 use Rattle.vol_numbers.specs.Cause.{raised}
-use Rattle.volume_model.specs.Legal.{is_excuse, reply_to}
+use Rattle.volume_model.specs.Done.{done}
+use Rattle.volume_model.specs.Legal.{is_done, is_excuse, reply_to}
 use Rattle.volume_model.specs.Machine.{Machine, Rules}
 use Rattle.volume_model.specs.Short.{AnswerForNow, answered, point_short}
 use Rattle.command_text.specs.declared.item.Item.TheVariants as item
@@ -60,6 +61,11 @@ IsLast command (Ok given) last = last ≡ Untold (exchange command (told_by give
 IsLast command (Err Now) last = (report : Option Report) × (last ≡ Stop command report)
 IsLast command (Err Before) last = ⊥
 
+-- What a reply behind a report is in a course, or a stop behind it.
+abbrev pub last_of : Command → Option Report → Result Reply Stopped → Last
+last_of command report (Ok given) = Untold (exchange command (answered (record { report = report; reply = given })))
+last_of command report (Err stopped) = Stop command report
+
 -- What a volume owes in state m: some last item of a course that is this result, and all that is owed by it.
 pub record Applied (r : Rules) (tells : Bool) (m : Machine) (command : Command) (result : Result Given Stopped) (old new : Seen) : Type 0 where
   pub last : Last
@@ -86,6 +92,10 @@ IsTold tree command given = (given ≡ (step tree command).0) ⊎ ((given ≡ re
 -- the answer to `space`
 abbrev pub space_of : Memory → Reply
 space_of v = reply.Space v.free v.pending v.state.current.body.log_used
+
+-- the state after a reply
+abbrev pub after_reply : Machine → Command → Reply → Machine
+after_reply m command given = if is_change command && is_done given then done m command else m
 
 -- the refusal for a fault
 abbrev pub refusal_by : TreeFault → Refusal

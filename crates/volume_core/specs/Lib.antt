@@ -1,4 +1,7 @@
 pub mod Memory
 pub mod Answers
 pub mod Begun
+pub mod Replied
 pub mod Between
+pub mod Staging
+pub mod Changing

@@ -33,6 +33,10 @@ pub record IsFitting (blocks : ℕ) (v : Memory) : Type 0 where
   pub directories : AreDirectories v.nodes
   pub tree : HoldsSomeTree v.nodes
 
+-- the memory is of one volume
+abbrev pub FitsSome : Memory → Type 0
+FitsSome v = (blocks : ℕ) × IsFitting blocks v
+
 -- Where the disk tells what it holds: no write has failed, disk and memory hold the machine, and what is pending and what is free are the machine's.
 pub record IsIn (r : Rules) (m : Machine) (s : State) (v : Memory) : Type 0 where
   pub alive : v.is_failed ≡ false

@@ -2,9 +2,8 @@
 use Rattle.std.proofs.Common.{◌≡◌, ◌∙◌, inl, None, sym, ap, subst}
 use Rattle.node_table.specs.Held.{HoldsNodes}
 use Rattle.tree_model.specs.Step.{refusal_of, step}
-use Rattle.tree_model.specs.Tree.{Tree, entries_of}
 use Rattle.tree_model.specs.declared.command.Command.{Command}
-use Rattle.tree_model.specs.declared.command.Command.TheVariants.{List as ListOf, Stat}
+use Rattle.tree_model.specs.declared.command.Command.TheVariants.{List as ListOf}
 use Rattle.tree_model.specs.declared.reply.Reply.TheVariants.{Entries}
 use Rattle.volume_core.specs.Memory.{Memory}
 use Rattle.volume_core.proofs.LookLaws.{refused_is, list_is, stat_is, rest_is_done}
