@@ -1,8 +1,7 @@
 -- A number of which nothing is staged.
-use Rattle.std.proofs.Common.{◌≡◌, ℕ, ◌+◌, ◌/◌, ◌<◌, Bool, true, false, not, cond, List, [], ◌∷◌, ◌++◌, map, length, take, Some, None, refl, sym, ap, subst, ◌∙◌, arith}
-use Rattle.std.specs.Prelude.{◌==◌, ◌&&◌, ◌||◌, nat_eq, nat_lt, max}
+use Rattle.std.proofs.Common.{◌≡◌, ℕ, ◌+◌, ◌*◌, ◌<◌, Bool, true, false, not, cond, List, [], ◌∷◌, ◌++◌, map, length, take, Some, None, refl, sym, ap, subst, ◌∙◌, arith}
+use Rattle.std.specs.Prelude.{◌==◌, ◌&&◌, ◌||◌, nat_eq, nat_lt, max, Option}
 use Rattle.std.specs.FinMap.{find, nat_cmp-IsAntisymmetric}
-use Rattle.std.specs.List.{list_any}
 use Rattle.std.specs.Ordering.{eq_by_cmp, nat_cmp}
 use Rattle.std.proofs.lemmas.Bool.Decides.{nat_tests}
 use Rattle.vol_numbers.specs.declared.block.Block.{Block}
@@ -12,6 +11,7 @@ use Rattle.block_format.specs.declared.inode.Inode.TheVariants.{Unused, File, Di
 use Rattle.block_format.specs.declared.slot.Slot.{Slot}
 use Rattle.block_tree.specs.Tree.{blocks_in, pairs_below, indexes_below, IsFull}
 use Rattle.dir_slots.specs.Pages.{pages_for}
+use Rattle.dir_slots.specs.Slots.{slot_at}
 use Rattle.dirty_store.specs.Entries.{Entries}
 use Rattle.dirty_store.specs.Laws.{dirty_spots}
 use Rattle.dirty_store.specs.Numbers.{numbers_in, staged_numbers}
@@ -26,11 +26,13 @@ use Rattle.image_model.specs.Slots.{slots_of as slots_seen}
 use Rattle.image_model.specs.Stands.{Stands}
 use Rattle.place_words.specs.Different.{is_among, times}
 use Rattle.point_model.specs.Holding.{inode_before, slots_left, slots_now, width_in}
-use Rattle.point_model.specs.NodePlan.{block_of_place, node_pointers, node_metas, is_kept_page, is_staged_page, TreeIsPlanned, PointersArePlanned, PagesArePlanned}
+use Rattle.point_model.specs.NodePlan.{block_of_place, node_pointers, node_metas, differs, is_changed_page, is_kept_page, TreeIsPlanned, PointersArePlanned, PagesArePlanned}
 use Rattle.point_model.specs.OldPages.{PagesStand, DirectoriesStand}
+use Rattle.point_model.proofs.ChangedPages.{unchanged_page}
 use Rattle.point_model.specs.PointPlan.{LiveStays, NodeIsPlanned, ContentIsPlanned}
 use Rattle.volume_model.specs.Machine.{Machine, Stored}
-use Rattle.volume_model.specs.Places.{Spot, Places, has_spot}
+use Rattle.volume_model.specs.Places.{Spot, Places, has_spot, spot_cmp}
+use Rattle.volume_model.proofs.PlacesTold.{tie_is}
 use Rattle.node_plan.specs.Laws.{UnstagedIsPlanned}
 use Rattle.node_plan.proofs.LiveTrees.{tree_full, tree_below, tree_stays}
 use Rattle.tree_plan.proofs.RisingLaws.{append_among}
@@ -66,22 +68,24 @@ no_width : {T : Type 0} → (es : Entries T) (n : ℕ) → is_among (numbers_in 
 no_width [] n out = refl
 no_width (e ∷ es) n out = ap (λ (t : Bool). cond t (max (e.0.1 + 1) (width_of es n)) (width_of es n)) (left_none _ _ out) ∙ no_width es n (right_none _ _ out)
 
-no_page : {T : Type 0} → (es : Entries T) (n p : ℕ) → is_among (numbers_in es) n ≡ false → list_any (λ e. e.0.0 == n && e.0.1 / 16 == p) es ≡ false
-no_page [] n p out = refl
-no_page (e ∷ es) n p out = ap (λ (t : Bool). (t && e.0.1 / 16 == p) || list_any (λ e. e.0.0 == n && e.0.1 / 16 == p) es) (left_none _ _ out) ∙ no_page es n p (right_none _ _ out)
+no_slot : {T : Type 0} → (es : Entries T) (n k : ℕ) → is_among (numbers_in es) n ≡ false → find spot_cmp (n, k) es ≡ None
+no_slot [] n k out = refl
+no_slot (e ∷ es) n k out =
+    ap (λ (t : Bool). cond t (Some e.1) (find spot_cmp (n, k) es)) (tie_is (n, k) e.0 ∙ ap (λ (t : Bool). t && nat_eq e.0.1 k) (left_none _ _ out)) ∙ no_slot es n k (right_none _ _ out)
 
 record IsUnstaged (o : Overlay) (n : ℕ) : Type 0 where
   node : node_of o n ≡ None
   dirty : (p : ℕ) → has_spot (dirty_spots o) (n, p) ≡ false
   width : width_of o.slots n ≡ 0
-  page : (p : ℕ) → is_staged_page o n p ≡ false
+  page : (left : List Slot) (p : ℕ) → is_changed_page left o n p ≡ false
 
 unstaged : (o : Overlay) (n : ℕ) → is_among (staged_numbers o) n ≡ false → IsUnstaged o n
 unstaged o n out = record {
   node = no_node o.nodes n (left_none (is_among (map (λ e. e.0) o.nodes) n) (is_among (numbers_in o.slots) n) behind);
   dirty = λ p. not_dirty o.blocks n p (left_none (is_among (numbers_in o.blocks) n) (is_among (map (λ e. e.0) o.nodes ++ numbers_in o.slots) n) parts);
   width = no_width o.slots n (right_none (is_among (map (λ e. e.0) o.nodes) n) (is_among (numbers_in o.slots) n) behind);
-  page = λ p. no_page o.slots n p (right_none (is_among (map (λ e. e.0) o.nodes) n) (is_among (numbers_in o.slots) n) behind);
+  page = λ left p. unchanged_page left o n p
+      (λ j lt. ap (λ (s : Option Slot). differs s (slot_at left (16 * p + j))) (no_slot o.slots n (16 * p + j) (right_none (is_among (map (λ e. e.0) o.nodes) n) (is_among (numbers_in o.slots) n) behind)));
 }
   where
     parts : (is_among (numbers_in o.blocks) n || is_among (map (λ e. e.0) o.nodes ++ numbers_in o.slots) n) ≡ false
@@ -164,7 +168,7 @@ module _ (old new : List Block) (s : Stored) (o : Overlay) (m : Machine) (placed
 
       never : (p : ℕ) → p < pages_for (length (slots_now old o n)) → is_kept_page old o n p ≡ false → ⊥
       never p lt kept =
-          let is_kept : is_kept_page old o n p ≡ true = (λ i. lt_test p (pages_for (length (slots_left old o n))) (before p lt) i && not (free.page p i)) in
+          let is_kept : is_kept_page old o n p ≡ true = (λ i. lt_test p (pages_for (length (slots_left old o n))) (before p lt) i && not (free.page (slots_left old o n) p i)) in
           let no : true ≡ false = sym is_kept ∙ kept in
           cc
 

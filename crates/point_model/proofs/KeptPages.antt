@@ -20,7 +20,7 @@ use Rattle.image_model.proofs.Area.{no_faults as none_found, split_none, files_w
 use Rattle.place_words.specs.Different.{is_among, times}
 use Rattle.point_model.specs.Holding.{inode_before, inode_now, slots_left, slots_now, width_in, kind_of}
 use Rattle.point_model.specs.Laws.{MayTake, IsPlannedFor}
-use Rattle.point_model.specs.NodePlan.{block_of_place, node_pointers, is_kept_page, is_staged_page}
+use Rattle.point_model.specs.NodePlan.{block_of_place, node_pointers, is_kept_page, is_changed_page}
 use Rattle.point_model.proofs.Counted.{old_counted}
 use Rattle.point_model.proofs.FileBytes.{in_area, area_counted}
 use Rattle.point_model.proofs.OldPages.{page_kept, pointer_there, one_of_total}
@@ -84,7 +84,7 @@ module _ (r : Rules) (old new : List Block) (o : Overlay) (m : Machine) (report 
   abbrev Kept : ℕ → ℕ → Type 0
   Kept n place = IsPage (slots_now old o n) place (blocks_in old (block_of_place old (inode_before old n) place)) × IsLive old (block_of_place old (inode_before old n) place)
 
-  of_directory : (n place width height ptr : ℕ) → inode_before old n ≡ Directory width height ptr → slots_left old o n ≡ take width (slots_seen (seen old) n) → place < pages_for (length (slots_left old o n)) → is_staged_page o n place ≡ false → Kept n place
+  of_directory : (n place width height ptr : ℕ) → inode_before old n ≡ Directory width height ptr → slots_left old o n ≡ take width (slots_seen (seen old) n) → place < pages_for (length (slots_left old o n)) → is_changed_page (slots_left old o n) o n place ≡ false → Kept n place
   of_directory n place width height ptr is left lt none =
       let stands : PagesStand (blocks_in old) (slots_left old o n) height ptr = subst (λ (ss : List Slot). PagesStand (blocks_in old) ss height ptr) (sym left) (stand n width height ptr is) in
       let there : (block_of_place old (inode_before old n) place == 0) ≡ false = ap (λ (x : Inode). block_of_place old x place == 0) is ∙ stands.there place lt in (
@@ -92,12 +92,12 @@ module _ (r : Rules) (old new : List Block) (o : Overlay) (m : Machine) (report 
         block_live n place (few n width height ptr is) there,
       )
 
-  by_inode : (n place : ℕ) (x : Inode) → inode_before old n ≡ x → slots_left old o n ≡ take (width_in x) (slots_seen (seen old) n) → place < pages_for (length (slots_left old o n)) → is_staged_page o n place ≡ false → Kept n place
+  by_inode : (n place : ℕ) (x : Inode) → inode_before old n ≡ x → slots_left old o n ≡ take (width_in x) (slots_seen (seen old) n) → place < pages_for (length (slots_left old o n)) → is_changed_page (slots_left old o n) o n place ≡ false → Kept n place
   by_inode n place Unused is left lt none = absurd (no_pages place (subst (λ (ss : List Slot). place < pages_for (length ss)) left lt))
   by_inode n place (File size height ptr) is left lt none = absurd (no_pages place (subst (λ (ss : List Slot). place < pages_for (length ss)) left lt))
   by_inode n place (Directory width height ptr) is left lt none = of_directory n place width height ptr is left lt none
 
-  by_cut : (t : Bool) (n place : ℕ) → (least_cut (node_of o n) == 0) ≡ t → place < pages_for (length (slots_left old o n)) → is_staged_page o n place ≡ false → Kept n place
+  by_cut : (t : Bool) (n place : ℕ) → (least_cut (node_of o n) == 0) ≡ t → place < pages_for (length (slots_left old o n)) → is_changed_page (slots_left old o n) o n place ≡ false → Kept n place
   by_cut true n place cut lt none =
       let left : slots_left old o n ≡ [] = ap (λ (t : Bool). cond t [] (take (width_in (inode_before old n)) (slots_seen (seen old) n))) cut in
       absurd (no_pages place (subst (λ (ss : List Slot). place < pages_for (length ss)) left lt))

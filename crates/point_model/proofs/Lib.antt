@@ -6,6 +6,7 @@ mod Places
 mod FilePlaces
 mod FileBytes
 mod Nodes
+pub mod ChangedPages
 mod OldPages
 pub mod KeptPages
 pub mod DirectoriesStand

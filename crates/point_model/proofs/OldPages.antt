@@ -1,10 +1,10 @@
 -- The pages of directories that a point keeps.
-use Rattle.std.proofs.Common.{◌≡◌, ℕ, zero, suc, ◌+◌, ◌*◌, ◌/◌, ◌<◌, ◌≤◌, Bool, true, false, cond, List, [], ◌∷◌, ◌++◌, map, length, Some, None, refl, sym, ap, subst, ◌∙◌, arith}
-use Rattle.std.specs.Prelude.{◌==◌, ◌&&◌, ◌||◌, nat_eq, nat_lt, max}
+use Rattle.std.proofs.Common.{◌≡◌, ℕ, zero, suc, ◌+◌, ◌*◌, ◌<◌, ◌≤◌, Bool, true, false, cond, List, [], ◌∷◌, ◌++◌, map, length, Some, None, refl, sym, ap, subst, ◌∙◌, arith}
+use Rattle.std.specs.Prelude.{◌==◌, ◌||◌, nat_eq, nat_lt, bytes_eq, not, max, Option}
 use Rattle.std.specs.FinMap.{find}
-use Rattle.std.specs.List.{list_any}
 use Rattle.std.proofs.lemmas.Bool.{eqb-true}
 use Rattle.std.proofs.lemmas.Bool.Decides.{nat_tests}
+use Rattle.std.proofs.lemmas.Slice.Eq.{bytes_eq-Decides}
 use Rattle.vol_numbers.specs.declared.block.Block.{Block}
 use Rattle.block_format.specs.Inode.{pointer_of}
 use Rattle.block_format.specs.Slot.{slot_bytes}
@@ -15,19 +15,18 @@ use Rattle.block_tree.specs.Tree.{blocks_in, block_in, block_below, pairs_below,
 use Rattle.block_tree.proofs.Pairs.{pairs_are}
 use Rattle.dir_slots.specs.Pages.{IsPage, pages_for}
 use Rattle.dir_slots.specs.Slots.{slot_at}
-use Rattle.dirty_store.specs.Entries.{Entries}
 use Rattle.dirty_store.specs.Overlay.{Overlay, width_of}
 use Rattle.image_model.specs.Planned.{height_in}
 use Rattle.place_words.specs.Different.{is_among, times, span, total}
 use Rattle.place_words.proofs.Counting.{among_times}
 use Rattle.point_model.specs.Holding.{slots_left, slot_now, slot_or, slots_from, slots_now, width_now}
 use Rattle.point_model.specs.OldPages.{PagesStand}
-use Rattle.point_model.specs.NodePlan.{block_of_place, node_pointers, is_staged_page}
+use Rattle.point_model.specs.NodePlan.{block_of_place, node_pointers, differs, is_changed_page}
+use Rattle.point_model.proofs.ChangedPages.{unchanged_slot}
 use Rattle.point_model.proofs.Spelled.{lt_true, lt_false}
-use Rattle.volume_model.specs.Places.{spot_cmp, spot_eq}
-use Rattle.volume_model.proofs.PlacesTold.{tie_is}
+use Rattle.volume_model.specs.Places.{spot_cmp}
 
--- ---- slots that aren't staged
+-- ---- slots of a page that isn't changed
 
 slot_in_list : (at : ℕ → Slot) (first n k : ℕ) → k < n → slot_at (slots_from at first n) k ≡ at (first + k)
 unfolding slots_from
@@ -46,66 +45,36 @@ slot_past [] k le = refl
 slot_past (s ∷ ss) zero le = absurd (omega (arith, le))
 slot_past (s ∷ ss) (suc k) le = slot_past ss k (omega (arith, le))
 
-not_staged : (es : Entries Slot) (n place k : ℕ) → k / 16 ≡ place → list_any (λ e. e.0.0 == n && e.0.1 / 16 == place) es ≡ false → find spot_cmp (n, k) es ≡ None
-not_staged [] n place k at none = refl
-not_staged (e ∷ es) n place k at none =
-    ap (λ (t : Bool). cond t (Some e.1) (find spot_cmp (n, k) es)) (tie_is (n, k) e.0) ∙ by (spot_eq e.0 (n, k)) refl none (not_staged es n place k at)
+-- a slot that is staged as it was has the bytes that it had
+staged_bytes : (staged : Option Slot) (left : Slot) → differs staged left ≡ false → slot_bytes (slot_or staged left) ≡ slot_bytes left
+staged_bytes None left same = refl
+staged_bytes (Some slot) left same = (bytes_eq-Decides (slot_bytes slot) (slot_bytes left)).0 (not_false (bytes_eq (slot_bytes slot) (slot_bytes left)) same)
   where
-    same : (a b : ℕ) → nat_eq a b ≡ true → a ≡ b
-    same a b is = grind (arith, nat_tests)
+    not_false : (a : Bool) → not a ≡ false → a ≡ true
+    not_false true e = refl
+    not_false false e = cc
 
-    itself : (a : ℕ) → (a == a) ≡ true
-    itself a = grind (arith, nat_tests)
-
-    first_of : (a b : Bool) → (a && b) ≡ true → a ≡ true
-    first_of true b e = refl
-    first_of false b e = cc
-
-    second_of : (a b : Bool) → (a && b) ≡ true → b ≡ true
-    second_of true b e = e
-    second_of false b e = cc
-
-    here : spot_eq e.0 (n, k) ≡ true → (e.0.0 == n && e.0.1 / 16 == place) ≡ true
-    here is =
-        let number = same e.0.0 n (first_of _ _ is) in
-        let slot = same e.0.1 k (second_of (nat_eq e.0.0 n) _ is) in
-        (λ i. number i == n && slot i / 16 == place) ∙ (λ i. itself n i && at i == place) ∙ itself place
-
-    rest : (a b : Bool) → (a || b) ≡ false → b ≡ false
-    rest true b e = cc
-    rest false b e = e
-
-    own : (a b : Bool) → (a || b) ≡ false → a ≡ true → ⊥
-    own true b e is = cc
-    own false b e is = cc
-
-    by : (t : Bool) → spot_eq e.0 (n, k) ≡ t → ((e.0.0 == n && e.0.1 / 16 == place) || list_any (λ e. e.0.0 == n && e.0.1 / 16 == place) es) ≡ false
-        → (list_any (λ e. e.0.0 == n && e.0.1 / 16 == place) es ≡ false → find spot_cmp (n, k) es ≡ None) → cond t (Some e.1) (find spot_cmp (n, k) es) ≡ None
-    by true is none more = absurd (own _ _ none (here is))
-    by false is none more = more (rest _ _ none)
-
--- a slot of a page of which none is staged is what it was
-same_slot : (old : List Block) (o : Overlay) (n place k : ℕ) → k / 16 ≡ place → is_staged_page o n place ≡ false → slot_at (slots_now old o n) k ≡ slot_at (slots_left old o n) k
-same_slot old o n place k at none = by (nat_lt k (width_now old o n)) refl
+-- a slot of a page that isn't changed has the bytes that it had
+same_slot : (old : List Block) (o : Overlay) (n place j : ℕ) → is_changed_page (slots_left old o n) o n place ≡ false → j < 16
+    → slot_bytes (slot_at (slots_now old o n) (16 * place + j)) ≡ slot_bytes (slot_at (slots_left old o n) (16 * place + j))
+same_slot old o n place j same less = by (16 * place + j) (unchanged_slot (slots_left old o n) o n place j same less) (nat_lt (16 * place + j) (width_now old o n)) refl
   where
-    by : (t : Bool) → nat_lt k (width_now old o n) ≡ t → slot_at (slots_now old o n) k ≡ slot_at (slots_left old o n) k
-    by true is =
+    by : (k : ℕ) → differs (find spot_cmp (n, k) o.slots) (slot_at (slots_left old o n) k) ≡ false → (t : Bool) → nat_lt k (width_now old o n) ≡ t → slot_bytes (slot_at (slots_now old o n) k) ≡ slot_bytes (slot_at (slots_left old o n) k)
+    by k same true is =
         let e : 0 + k ≡ k = omega arith in
-        slot_in_list (slot_now old o n) 0 (width_now old o n) k (lt_true k (width_now old o n) is) ∙ ap (slot_now old o n) e ∙ ap (λ s. slot_or s (slot_at (slots_left old o n) k)) (not_staged o.slots n place k at none)
-    by false is =
+        ap slot_bytes (slot_in_list (slot_now old o n) 0 (width_now old o n) k (lt_true k (width_now old o n) is) ∙ ap (slot_now old o n) e) ∙ staged_bytes (find spot_cmp (n, k) o.slots) (slot_at (slots_left old o n) k) same
+    by k same false is =
         let past = lt_false k (width_now old o n) is in
-        slot_past_list (slot_now old o n) 0 (width_now old o n) k past ∙ sym (slot_past (slots_left old o n) k (shorter (length (slots_left old o n)) (width_of o.slots n) k past))
+        ap slot_bytes (slot_past_list (slot_now old o n) 0 (width_now old o n) k past ∙ sym (slot_past (slots_left old o n) k (shorter (length (slots_left old o n)) (width_of o.slots n) k past)))
       where
         shorter : (a b c : ℕ) → max a b ≤ c → a ≤ c
         shorter a b c le = omega (arith, le)
 
 -- ---- the page of a directory that stands
 
-pub page_kept : (old : List Block) (o : Overlay) (n place height ptr : ℕ) → PagesStand (blocks_in old) (slots_left old o n) height ptr → place < pages_for (length (slots_left old o n)) → is_staged_page o n place ≡ false
+pub page_kept : (old : List Block) (o : Overlay) (n place height ptr : ℕ) → PagesStand (blocks_in old) (slots_left old o n) height ptr → place < pages_for (length (slots_left old o n)) → is_changed_page (slots_left old o n) o n place ≡ false
     → IsPage (slots_now old o n) place (blocks_in old (block_below (blocks_in old) height ptr place))
-page_kept old o n place height ptr stands lt none j less =
-    let e : (16 * place + j) / 16 ≡ place = omega (arith, less) in
-    stands.spelled place lt j less ∙ ap slot_bytes (sym (same_slot old o n place (16 * place + j) e none))
+page_kept old o n place height ptr stands lt same j less = stands.spelled place lt j less ∙ sym (same_slot old o n place j same less)
 
 -- ---- its block is live
 

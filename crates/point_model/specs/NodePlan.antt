@@ -1,19 +1,22 @@
 -- What is planned of one number: facts of an image in which the pages stand, and the old blocks as they were.
-use Rattle.std.specs.Prelude.{◌≡◌, ◌≤◌, ◌<◌, ℕ, ◌+◌, ◌/◌, ◌==◌, ◌&&◌, not, nat_lt, Bool, true, false, List, length, Some}
+use Rattle.std.specs.Prelude.{◌≡◌, ◌≤◌, ◌<◌, ℕ, ◌+◌, ◌*◌, ◌==◌, ◌&&◌, not, nat_lt, bytes_eq, Bool, true, false, List, length, Option, None, Some}
 use Rattle.std.specs.FinMap.{find}
 use Rattle.std.specs.List.{list_any}
 use Rattle.vol_numbers.specs.declared.block.Block.{Block}
 use Rattle.vol_numbers.specs.declared.runs.Change.{Change}
 use Rattle.block_format.specs.Inode.{pointer_of}
+use Rattle.block_format.specs.Slot.{slot_bytes}
 use Rattle.block_format.specs.declared.inode.Inode.{Inode}
+use Rattle.block_format.specs.declared.slot.Slot.{Slot}
 use Rattle.block_tree.specs.Edit.{changed_at, cut_at}
 use Rattle.block_tree.specs.Tree.{block_below, indexes_below, pairs_below, pointers_below, blocks_in, IsFull}
 use Rattle.dir_slots.specs.Pages.{IsPage, pages_for}
+use Rattle.dir_slots.specs.Slots.{slot_at}
 use Rattle.dirty_store.specs.Overlay.{Overlay}
 use Rattle.image_model.specs.Met.{metas}
 use Rattle.image_model.specs.Nodes.{AllBelow, blocks_in_node}
 use Rattle.image_model.specs.Planned.{height_in, node_trees}
-use Rattle.place_words.specs.Different.{times}
+use Rattle.place_words.specs.Different.{span, times}
 use Rattle.point_model.specs.Holding.{slots_left, slots_now}
 use Rattle.volume_model.specs.Places.{Spot, Places, spot_cmp, has_spot}
 
@@ -53,13 +56,18 @@ pub record AreOfPlaces (dirty : List Spot) (placed : Places) (n : ℕ) (changes 
 
 -- ---- directories
 
--- whether a slot of a directory's page is staged
-abbrev pub is_staged_page : Overlay → ℕ → ℕ → Bool
-is_staged_page o n place = list_any (λ e. e.0.0 == n && e.0.1 / 16 == place) o.slots
+-- whether what is staged in a slot differs from what is left there of the last point, by their bytes
+abbrev pub differs : Option Slot → Slot → Bool
+differs None left = false
+differs (Some slot) left = not (bytes_eq (slot_bytes slot) (slot_bytes left))
 
--- whether a directory's page stays as it was: it was there, and no slot of it is staged
+-- whether a staged slot of a directory's page, which has 16, differs from what is left of the last point
+unfoldable pub is_changed_page : List Slot → Overlay → ℕ → ℕ → Bool
+is_changed_page left o n place = list_any (λ j. differs (find spot_cmp (n, 16 * place + j) o.slots) (slot_at left (16 * place + j))) (span 0 16)
+
+-- whether a directory's page stays as it was: it was there, and no staged slot of it differs
 abbrev pub is_kept_page : List Block → Overlay → ℕ → ℕ → Bool
-is_kept_page old o n place = nat_lt place (pages_for (length (slots_left old o n))) && not (is_staged_page o n place)
+is_kept_page old o n place = nat_lt place (pages_for (length (slots_left old o n))) && not (is_changed_page (slots_left old o n) o n place)
 
 -- Each page of a directory is there. It is the old one where that stays, else it spells the slots now.
 pub record PagesArePlanned (old new : List Block) (o : Overlay) (n : ℕ) (was is : Inode) : Type 0 where

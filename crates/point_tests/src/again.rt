@@ -1,4 +1,4 @@
-//! What is removed and made again, cut and grown again, and emptied and filled again. A point gives blocks in this order, each from what is free before
+//! What is removed and made again, cut and grown again, emptied and filled again, and as it was before. A point gives blocks in this order, each from what is free before
 //! it: the data, then by number a directory's blocks and a file's index blocks, then the block of inodes, then the inode index.
 use crate::acts::{Act, Kind};
 use crate::picture::Put;
@@ -167,6 +167,39 @@ const AFTER_DIRECTORY_AGAIN: &[Put] = &[
     Put::Number(108, 0, 107),
 ];
 
+/// A second file is made and removed between two points, then the first one is removed and made again just as it was.
+const AS_BEFORE: &[Act] = &[
+    Act::Made(2, Kind::File(0), &[(1, 0, 2, b'a')]),
+    Act::Point((1, 0, 61, &[])),
+    Act::Made(3, Kind::File(0), &[(1, 1, 3, b'b')]),
+    Act::Removed(3, &[(1, 1, 0, 0)]),
+    Act::Point((2, 0, 61, &[])),
+    Act::Removed(2, &[(1, 0, 0, 0)]),
+    Act::Made(2, Kind::File(0), &[(1, 0, 2, b'a')]),
+    Act::Point((3, 0, 61, &[])),
+];
+
+/// The directory's block 103, inodes 104, inode index 105. Then the directory is two slots wide, and its second slot is unused as before: its block 103
+/// stays, and 101 and 102 are the least free blocks, for the inodes and the inode index. The last point writes the root alone.
+const AFTER_AS_BEFORE: &[Put] = &[
+    Put::Same(4, 103, 3, 1),
+    Put::Number(103, 0, 2),
+    Put::Number(103, 1, 0x0061_0001),
+    Put::Number(104, 16, 2),
+    Put::Number(104, 17, 103),
+    Put::Number(104, 18, 256),
+    Put::Number(104, 32, 1),
+    Put::Number(105, 0, 104),
+    Put::Number(1, 6, 2),
+    Put::Number(3, 103, 1),
+    Put::Number(101, 17, 103),
+    Put::Number(101, 18, 512),
+    Put::Number(101, 32, 1),
+    Put::Number(2, 6, 3),
+    Put::Number(2, 8, 102),
+    Put::Number(2, 12, 0),
+];
+
 #[test]
 fn a_number_is_made_again(rt: HostRuntime) -> Result<(), Fail> {
     assert_eq!(rt;
@@ -223,6 +256,21 @@ fn a_directory_is_removed_and_made_again(rt: HostRuntime) -> Result<(), Fail> {
             &[FRESH, OTHER_SLOT, AFTER_DIRECTORY_AGAIN]
         )?,
         Outcome::Good(3, 60)
+    );
+    Ok(())
+}
+
+#[test]
+fn a_page_that_is_as_before_stays(rt: HostRuntime) -> Result<(), Fail> {
+    assert_eq!(rt;
+        comes_out(
+            rt.alloc(),
+            BLOCKS,
+            &[FRESH],
+            AS_BEFORE,
+            &[FRESH, OTHER_SLOT, AFTER_AS_BEFORE]
+        )?,
+        Outcome::Good(2, 61)
     );
     Ok(())
 }

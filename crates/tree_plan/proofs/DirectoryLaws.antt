@@ -23,7 +23,7 @@ use Rattle.place_words.specs.Different.{times, different, is_among, span}
 use Rattle.place_words.specs.Rising.{Rising, AllUnder}
 use Rattle.place_words.proofs.Totals.{different_part}
 use Rattle.point_model.specs.Holding.{slots_left, slots_now, kind_of}
-use Rattle.point_model.specs.NodePlan.{block_of_place, node_pointers, node_metas, is_kept_page, is_staged_page, PointersArePlanned, PagesArePlanned}
+use Rattle.point_model.specs.NodePlan.{block_of_place, node_pointers, node_metas, is_kept_page, is_changed_page, PointersArePlanned, PagesArePlanned}
 use Rattle.tree_plan.specs.Directories.{HoldsDirectory}
 use Rattle.tree_plan.specs.Pages.{is_written, written_pages, width_with, SpellsPage, AreSpelled}
 use Rattle.tree_plan.proofs.MetaLaws.{metas_directory, metas_file, times_append}
@@ -191,7 +191,7 @@ module _ (old new : List Block) (o : Overlay) (n : ℕ) (was is : Inode) (left :
   written_is : (p : ℕ) → Now p → is_among (places_in (pairs_of changes)) p ≡ not (is_kept_page old o n p)
   written_is p lt =
       ap (λ (ps : List ℕ). is_among ps p) the_places ∙ written_among left o n p ∙ ap (λ (t : Bool). t && is_written left o n p) (true_lt p (pages_for (width_with left o n)) (now_below p lt))
-      ∙ ap (λ (ss : List Slot). not (nat_lt p (pages_for (length ss)) && not (is_staged_page o n p))) holds.slots
+      ∙ ap (λ (ss : List Slot). not (nat_lt p (pages_for (length ss)) && not (is_changed_page ss o n p))) holds.slots
 
   kept_is : (p : ℕ) → Now p → is_kept_page old o n p ≡ true → (block_of_place new is p ≡ block_of_place old was p) × (p < pages_for (length left))
   kept_is p lt kept = (block_is p lt ∙ (λ i. cond (none i == 0) (cut_at (least_cut (node_of o n)) (block_of_place old was) p) (none i)) ∙ ap (λ (t : Bool). cond t (block_of_place old was p) 0) (true_lt p (least_cut (node_of o n)) (omega (arith, before, holds.uncut))), before)

@@ -1,6 +1,7 @@
 pub mod TreeLaws
 pub mod MetaLaws
 pub mod SlotLaws
+pub mod ChangedLaws
 pub mod RisingLaws
 pub mod SpelledLaws
 pub mod DirectoryLaws

@@ -10,9 +10,9 @@ use Rattle.dirty_store.specs.Overlay.{Overlay}
 use Rattle.place_words.specs.Different.{is_among, span}
 use Rattle.place_words.specs.Rising.{Rising, AllUnder}
 use Rattle.place_words.proofs.Rising.{rising_less}
-use Rattle.point_model.specs.NodePlan.{is_staged_page}
+use Rattle.point_model.specs.NodePlan.{is_changed_page}
 use Rattle.tree_plan.specs.Pages.{is_written, written_pages, width_with}
-use Rattle.tree_plan.proofs.SlotLaws.{staged_is}
+use Rattle.tree_plan.proofs.ChangedLaws.{changed_staged}
 
 pub not_among : (x n : ℕ) → x < n → (xs : List ℕ) → Rising n xs → is_among xs x ≡ false
 not_among x n lt [] rising = refl
@@ -145,32 +145,34 @@ append_among (x ∷ xs) ys k = by (nat_eq x k) (append_among xs ys k)
     by true more = refl
     by false more = more
 
-filter_under : (limit : ℕ) (xs : List ℕ) → AllUnder limit (filter (λ p. nat_lt p limit) xs)
-filter_under limit [] = tt
-filter_under limit (x ∷ xs) = by (nat_lt x limit) refl (filter_under limit xs)
+filter_under : (test : ℕ → Bool) (limit : ℕ) (xs : List ℕ) → AllUnder limit (filter (λ p. nat_lt p limit && test p) xs)
+filter_under test limit [] = tt
+filter_under test limit (x ∷ xs) = by (nat_lt x limit) refl (test x) (filter_under test limit xs)
   where
-    by : (t : Bool) → nat_lt x limit ≡ t → AllUnder limit (filter (λ p. nat_lt p limit) xs) → AllUnder limit (cond t (x ∷ filter (λ p. nat_lt p limit) xs) (filter (λ p. nat_lt p limit) xs))
-    by true is more = (grind (arith, nat_tests), more)
-    by false is more = more
+    by : (t : Bool) → nat_lt x limit ≡ t → (u : Bool) → AllUnder limit (filter (λ p. nat_lt p limit && test p) xs)
+        → AllUnder limit (cond (t && u) (x ∷ filter (λ p. nat_lt p limit && test p) xs) (filter (λ p. nat_lt p limit && test p) xs))
+    by true is true more = (grind (arith, nat_tests), more)
+    by true is false more = more
+    by false is u more = more
 
 -- ---- which pages are written
 
--- the staged pages that were there, and then those that were not
+-- the changed pages that were there, and then those that were not
 pub pages_written : (left : List Slot) (o : Overlay) (n : ℕ) (staged : List ℕ) (before after : ℕ) → AreOnce (staged_pages o n) staged → before ≡ pages_for (length left) → after ≡ pages_for (width_with left o n) → before ≤ after
-    → filter (λ p. nat_lt p before) staged ++ span before (after - before) ≡ written_pages left o n
+    → filter (λ p. nat_lt p before && is_changed_page left o n p) staged ++ span before (after - before) ≡ written_pages left o n
 pages_written left o n staged before after once first last le =
     rising_same 0 _ _
-    (rising_append 0 before (filter (λ p. nat_lt p before) staged) (span before (after - before)) (omega arith) (filter_rises (λ p. nat_lt p before) 0 staged once.rises) (filter_under before staged) (span_rises before (after - before)))
+    (rising_append 0 before (filter (λ p. nat_lt p before && is_changed_page left o n p) staged) (span before (after - before)) (omega arith) (filter_rises (λ p. nat_lt p before && is_changed_page left o n p) 0 staged once.rises) (filter_under (is_changed_page left o n) before staged) (span_rises before (after - before)))
     (filter_rises (is_written left o n) 0 (span 0 (pages_for (width_with left o n))) (span_rises 0 (pages_for (width_with left o n))))
     same
   where
-    same : (k : ℕ) → is_among (filter (λ p. nat_lt p before) staged ++ span before (after - before)) k ≡ is_among (written_pages left o n) k
+    same : (k : ℕ) → is_among (filter (λ p. nat_lt p before && is_changed_page left o n p) staged ++ span before (after - before)) k ≡ is_among (written_pages left o n) k
     same k =
-        append_among (filter (λ p. nat_lt p before) staged) (span before (after - before)) k
-        ∙ (λ i. filter_among (λ p. nat_lt p before) staged k i || span_among before (after - before) k i)
-        ∙ ap (λ (s : Bool). (s && nat_lt k before) || (not (nat_lt k before) && nat_lt k (before + (after - before)))) (once.each k ∙ staged_is o n k)
-        ∙ by (nat_lt k before) refl (is_staged_page o n k) (nat_lt k (before + (after - before))) refl (nat_lt k after) refl
-        ∙ (λ i. nat_lt k (last i) && not (nat_lt k (first i) && not (is_staged_page o n k)))
+        append_among (filter (λ p. nat_lt p before && is_changed_page left o n p) staged) (span before (after - before)) k
+        ∙ (λ i. filter_among (λ p. nat_lt p before && is_changed_page left o n p) staged k i || span_among before (after - before) k i)
+        ∙ ap (λ (a : Bool). (a && (nat_lt k before && is_changed_page left o n k)) || (not (nat_lt k before) && nat_lt k (before + (after - before)))) (once.each k)
+        ∙ by (nat_lt k before) refl (is_among (staged_pages o n) k) (is_changed_page left o n k) (changed_staged left o n k) (nat_lt k (before + (after - before))) refl (nat_lt k after) refl
+        ∙ (λ i. nat_lt k (last i) && not (nat_lt k (first i) && not (is_changed_page left o n k)))
         ∙ ap (λ (t : Bool). t && is_written left o n k) (sym (from_zero k (pages_for (width_with left o n))))
         ∙ sym (filter_among (is_written left o n) (span 0 (pages_for (width_with left o n))) k)
       where
@@ -184,13 +186,16 @@ pages_written left o n staged before after once first last le =
             by false is true also false third = absurd (grind (arith, nat_tests))
             by false is false also true third = absurd (grind (arith, nat_tests))
 
-        by : (t : Bool) → nat_lt k before ≡ t → (s u : Bool) → nat_lt k (before + (after - before)) ≡ u → (v : Bool) → nat_lt k after ≡ v → ((s && t) || (not t && u)) ≡ (v && not (t && not s))
-        by true is true u also true third = refl
-        by true is false u also true third = refl
-        by true is s u also false third = absurd (grind (arith, nat_tests))
-        by false is true true also true third = refl
-        by false is false true also true third = refl
-        by false is true false also false third = refl
-        by false is false false also false third = refl
-        by false is s true also false third = absurd (grind (arith, nat_tests))
-        by false is s false also true third = absurd (grind (arith, nat_tests))
+        by : (t : Bool) → nat_lt k before ≡ t → (a s : Bool) → (a ≡ false → s ≡ false) → (u : Bool) → nat_lt k (before + (after - before)) ≡ u → (v : Bool) → nat_lt k after ≡ v
+            → ((a && (t && s)) || (not t && u)) ≡ (v && not (t && not s))
+        by true is true true held u also true third = refl
+        by true is true false held u also true third = refl
+        by true is false true held u also true third = let never : true ≡ false = held refl in cc
+        by true is false false held u also true third = refl
+        by true is a s held u also false third = absurd (grind (arith, nat_tests))
+        by false is true s held true also true third = refl
+        by false is false s held true also true third = refl
+        by false is true s held false also false third = refl
+        by false is false s held false also false third = refl
+        by false is a s held true also false third = absurd (grind (arith, nat_tests))
+        by false is a s held false also true third = absurd (grind (arith, nat_tests))

@@ -1,8 +1,7 @@
 -- The slots of a directory now: what is staged, else what is left.
-use Rattle.std.proofs.Common.{◌≡◌, ℕ, zero, suc, ◌+◌, ◌*◌, ◌/◌, ◌<◌, ◌≤◌, Bool, true, false, cond, List, [], ◌∷◌, map, filter, length, refl, sym, ap, ◌∙◌, arith}
-use Rattle.std.specs.Prelude.{◌==◌, ◌&&◌, ◌||◌, nat_eq, nat_lt, max, Option, Some, None}
+use Rattle.std.proofs.Common.{◌≡◌, ℕ, zero, suc, ◌+◌, ◌*◌, ◌<◌, ◌≤◌, Bool, true, false, cond, List, [], ◌∷◌, length, refl, sym, ap, ◌∙◌, arith}
+use Rattle.std.specs.Prelude.{◌&&◌, nat_eq, nat_lt, max, Option, Some, None}
 use Rattle.std.specs.FinMap.{find}
-use Rattle.std.specs.List.{list_any}
 use Rattle.std.proofs.lemmas.Bool.Decides.{nat_tests}
 use Rattle.vol_numbers.specs.declared.block.Block.{Block}
 use Rattle.block_format.specs.Slot.{slot_bytes}
@@ -11,11 +10,8 @@ use Rattle.block_format.specs.declared.slot.Slot.TheVariants as slots
 use Rattle.dir_slots.specs.Pages.{IsPage}
 use Rattle.dir_slots.specs.Slots.{slot_at}
 use Rattle.dirty_store.specs.Entries.{Entries}
-use Rattle.dirty_store.specs.Numbers.{staged_pages}
-use Rattle.dirty_store.specs.Overlay.{Overlay, width_of, dirty_places}
-use Rattle.place_words.specs.Different.{is_among}
+use Rattle.dirty_store.specs.Overlay.{Overlay, width_of}
 use Rattle.point_model.specs.Holding.{slots_left, slot_now, slot_or, slots_from, slots_now, width_now}
-use Rattle.point_model.specs.NodePlan.{is_staged_page}
 use Rattle.volume_model.specs.Places.{spot_cmp}
 use Rattle.volume_model.proofs.PlacesTold.{tie_is}
 use Rattle.tree_plan.specs.Pages.{slot_with, SpellsPage, width_with}
@@ -90,18 +86,3 @@ page_is old o n place left bytes is spells j lt =
 
 pub width_is : (old : List Block) (o : Overlay) (n : ℕ) (left : List Slot) → left ≡ slots_left old o n → length (slots_now old o n) ≡ width_with left o n
 width_is old o n left is = length_from (slot_now old o n) 0 (width_now old o n) ∙ ap (λ (ss : List Slot). width_with ss o n) (sym is)
-
--- ---- staged pages
-
-pub staged_is : (o : Overlay) (n place : ℕ) → is_among (staged_pages o n) place ≡ is_staged_page o n place
-staged_is o n place = go o.slots
-  where
-    go : (es : Entries Slot) → is_among (map (λ k. k / 16) (dirty_places es n)) place ≡ list_any (λ e. e.0.0 == n && e.0.1 / 16 == place) es
-    go [] = refl
-    go (e ∷ es) = by (nat_eq e.0.0 n) (go es)
-      where
-        by : (t : Bool) → is_among (map (λ k. k / 16) (dirty_places es n)) place ≡ list_any (λ e. e.0.0 == n && e.0.1 / 16 == place) es
-            → is_among (map (λ k. k / 16) (map (λ e. e.0.1) (cond t (e ∷ filter (λ e. nat_eq e.0.0 n) es) (filter (λ e. nat_eq e.0.0 n) es)))) place
-            ≡ (t && e.0.1 / 16 == place || list_any (λ e. e.0.0 == n && e.0.1 / 16 == place) es)
-        by true more = ap (λ (u : Bool). e.0.1 / 16 == place || u) more
-        by false more = more

@@ -11,7 +11,7 @@ use Rattle.dirty_store.specs.Overlay.{Overlay, width_of}
 use Rattle.place_words.specs.Different.{span}
 use Rattle.place_words.specs.Rising.{Rising, AllUnder}
 use Rattle.point_model.specs.Holding.{slot_or}
-use Rattle.point_model.specs.NodePlan.{is_staged_page}
+use Rattle.point_model.specs.NodePlan.{is_changed_page}
 use Rattle.volume_model.specs.Places.{spot_cmp}
 
 -- the slots that are left of the last point, none where there is no directory
@@ -41,9 +41,9 @@ abbrev pub part_with : Option Slot → List ℕ → List ℕ
 part_with None part = part
 part_with (Some slot) part = slot_bytes slot
 
--- whether a page is written: it wasn't there, or a slot of it is staged
+-- whether a page is written: it wasn't there, or a staged slot of it differs from what is left
 abbrev pub is_written : List Slot → Overlay → ℕ → ℕ → Bool
-is_written left o n place = not (nat_lt place (pages_for (length left)) && not (is_staged_page o n place))
+is_written left o n place = not (nat_lt place (pages_for (length left)) && not (is_changed_page left o n place))
 
 -- the places of the pages that are written, in order
 abbrev pub written_pages : List Slot → Overlay → ℕ → List ℕ

@@ -43,7 +43,7 @@ use vol_numbers::{Fbn, Geometry, InoNo, Page, PageList};
 /// Plans a directory from the slots that are left of the last point, none where it was no directory then or was cut to no block since, and from what
 /// is staged of it. It writes nothing.
 ///
-/// A page that was there and has no staged slot stays. For the others the lowest free blocks are taken, by place, and then for the index blocks.
+/// A page that was there stays, unless a staged slot of it differs from what it was. For the others the lowest free blocks are taken, by place, and then for the index blocks.
 pub fn plan_directory<D: Disk>(
     alloc: Global,
     disk: &mut D,

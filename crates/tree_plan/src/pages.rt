@@ -1,10 +1,12 @@
 //! Which pages of a directory are written.
-ghost use Rattle.std.specs.Prelude.{◌≡◌, ◌≤◌, ◌+◌, ◌-◌, ◌++◌, nat_lt, filter, length, IfOk, OnOk};
+ghost use Rattle.std.specs.Prelude.{◌≡◌, ◌≤◌, ◌+◌, ◌-◌, ◌++◌, ◌&&◌, nat_lt, filter, length, IfOk, OnOk};
 ghost use Rattle.std.specs.Option.{option_copied};
 ghost use Rattle.place_words.specs.Different.{span};
 ghost use Rattle.dir_slots.specs.Pages.{pages_for};
+ghost use Rattle.point_model.specs.NodePlan.{is_changed_page};
 ghost use Rattle.tree_plan.specs.Pages.{slots_or_none, width_with, written_pages, SlotsFit};
 
+use crate::spelling::is_changed_page;
 use dir_slots::Directory;
 use dirty_store::DirtyStore;
 use std::alloc::{AllocError, Global};
@@ -42,7 +44,10 @@ pub(crate) fn pages_for(width: u32) -> u32
     width.div_ceil(SLOTS)
 }
 
-/// The places of the pages that are written, in order: those that were there and have a staged slot, and those that were not there.
+/// The places of the pages that are written, in order: those that were there and have a staged slot that differs from what it was, and those that were
+/// not there.
+///
+/// Each page with a staged slot is looked at once, in memory, so the work grows with what is staged.
 pub fn written_pages(
     alloc: Global,
     left: Option<&Directory>,
@@ -56,17 +61,26 @@ pub fn written_pages(
     let after = pages_for(width_now(left, store, number));
     let staged = store.pages(alloc, number)?;
     let mut places = Vec::new(alloc);
-    push_below(&mut places, staged.as_slice(), before)?;
+    push_changed(&mut places, left, store, number, staged.as_slice(), before)?;
     push_range(&mut places, before, after)?;
     Ok(places)
 }
 
-/// Adds those of these places that are below a limit.
-fn push_below(places: &mut Vec<Fbn>, staged: &[Fbn], limit: Fbn) -> Result<(), AllocError>
-    ensures { OnOk result (places.new.items ≡ places.old.items ++ filter (λ p. nat_lt p limit) staged.now) }
+/// Adds those of these places that are below a limit and whose pages differ from what is left of them.
+fn push_changed(
+    places: &mut Vec<Fbn>,
+    left: Option<&Directory>,
+    store: &DirtyStore,
+    number: InoNo,
+    staged: &[Fbn],
+    limit: Fbn,
+) -> Result<(), AllocError>
+    requires fits { SlotsFit store.now.overlay number }
+    requires limit { limit ≤ 4096 }
+    ensures { OnOk result (places.new.items ≡ places.old.items ++ filter (λ p. nat_lt p limit && is_changed_page (slots_or_none (option_copied left.entry)) store.now.overlay number p) staged.now) }
 {
     for place in staged {
-        if *place < limit {
+        if *place < limit && is_changed_page(left, store, number, *place) {
             places.push(*place)?;
         }
     }

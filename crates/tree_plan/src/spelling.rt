@@ -5,6 +5,7 @@ ghost use Rattle.std.specs.FinMap.{find};
 ghost use Rattle.block_format.specs.Slot.{slot_part};
 ghost use Rattle.block_tree.specs.Notes.{page_blocks};
 ghost use Rattle.dir_slots.specs.Pages.{IsPage};
+ghost use Rattle.point_model.specs.NodePlan.{is_changed_page};
 ghost use Rattle.volume_model.specs.Places.{spot_cmp};
 ghost use Rattle.tree_plan.specs.Pages.{slots_or_none, part_with, SlotsFit, SpellsPage, AreSpelled};
 
@@ -69,6 +70,24 @@ pub(crate) fn spelled_page(
     let mut block = page_left(left, place);
     put_staged(store, number, place, &mut block);
     block
+}
+
+/// Whether a staged slot of a page differs from what is left of the last point.
+///
+/// The page is spelled as it is left and as it is now, and the two are compared. Nothing is read from the disk.
+pub(crate) fn is_changed_page(
+    left: Option<&Directory>,
+    store: &DirtyStore,
+    number: InoNo,
+    place: Fbn,
+) -> bool
+    requires fits { SlotsFit store.now.overlay number }
+    requires place { place < 4096 }
+    ensures { result ≡ is_changed_page (slots_or_none (option_copied left.entry)) store.now.overlay number place }
+{
+    let before = page_left(left, place);
+    let after = spelled_page(left, store, number, place);
+    after.bytes != before.bytes
 }
 
 /// The block of a page as it is left of the last point.
