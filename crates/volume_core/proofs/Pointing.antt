@@ -22,7 +22,7 @@ use Rattle.session_model.specs.Making.{Applies}
 use Rattle.session_model.specs.Stages.{StandsForOne}
 use Rattle.session_model.proofs.Stored.{synced_stands}
 use Rattle.volume_core.specs.Answers.{HasReplyCause, exchange}
-use Rattle.volume_core.specs.Between.{StandsBetween}
+use Rattle.consistency_point.specs.Taking.{StandsBetween}
 
 -- at rest, an image stands for the state
 rests : (m : Machine) (s : State) (x : Machine) → IsAtRest m s → EachImage (StandsForOne (m ∷ m ∷ x ∷ [])) s

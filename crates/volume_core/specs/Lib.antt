@@ -2,6 +2,5 @@ pub mod Memory
 pub mod Answers
 pub mod Begun
 pub mod Replied
-pub mod Between
 pub mod Staging
 pub mod Changing
