@@ -1,5 +1,5 @@
 //! Inodes that are known by number, over the inode index in whose blocks they stand.
-ghost use Rattle.std.specs.Prelude.{◌≡◌, ℕ, IfOk, IsTrue, ◌↔◌, length};
+ghost use Rattle.std.specs.Prelude.{◌≡◌, ◌≤◌, ◌+◌, ℕ, IfOk, OnOk, IsTrue, ◌↔◌, length};
 ghost use Rattle.vol_numbers.specs.Geometry.{layout_of};
 ghost use Rattle.disk_model.specs.Past.{Adds};
 ghost use Rattle.block_format.specs.Index.{IsInArea, IsPointer};
@@ -49,6 +49,7 @@ impl InodeFile {
         ensures index { IfOk result (λ t. t.index ≡ index) }
         ensures within { IfOk result (IsWithin (layout_of g.now)) }
         ensures whole { IfOk result IsTable }
+        ensures reads { OnOk result ((D.given disk.new).count ≤ (D.given disk.old).count + 1) }
         ensures damaged { IsLoadDamage (layout_of g.now) D.tells (blocks_in (D.state disk.new).contents) index (D.given disk.old) (D.given disk.new) result }
         ensures same { IsTrue D.tells → D.state disk.new ≡ D.state disk.old }
         ensures moments { IsTrue D.tells → Adds (D.past disk.old) (D.past disk.new) (λ s. s ≡ D.state disk.old) }

@@ -1,5 +1,5 @@
 //! Reads the inode index and the inode blocks.
-ghost use Rattle.std.specs.Prelude.{◌≡◌, ◌<◌, ◌≤◌, ℕ, true, false, All, IfOk, OnOk, IsTrue, length, slice_index};
+ghost use Rattle.std.specs.Prelude.{◌≡◌, ◌<◌, ◌≤◌, ◌+◌, ℕ, true, false, All, IfOk, OnOk, IsTrue, length, slice_index};
 ghost use Rattle.vol_numbers.specs.Geometry.{layout_of};
 ghost use Rattle.disk_model.specs.Past.{Adds};
 ghost use Rattle.block_format.specs.Index.{IsPointer, IsInArea};
@@ -30,6 +30,7 @@ pub(crate) fn read_pointers<D: Disk>(
     requires index { IsInArea (layout_of g.now) index }
     ensures pointers { IfOk result (λ pointers. IsTrue D.tells → index_at (blocks_in (D.state disk.old).contents) index ≡ pointers.ptrs) }
     ensures within { IfOk result (λ pointers. All (IsPointer (layout_of g.now)) pointers.ptrs) }
+    ensures reads { OnOk result ((D.given disk.new).count ≤ (D.given disk.old).count + 1) }
     ensures damaged { IsLoadDamage (layout_of g.now) D.tells (blocks_in (D.state disk.new).contents) index (D.given disk.old) (D.given disk.new) result }
     ensures same { IsTrue D.tells → D.state disk.new ≡ D.state disk.old }
     ensures moments { IsTrue D.tells → Adds (D.past disk.old) (D.past disk.new) (λ s. s ≡ D.state disk.old) }
